@@ -1,5 +1,6 @@
 #!/usr/bin/env python3
-"""Tells functions that no product crate calls, and lemmas and definitions that nothing names.
+"""Tells functions that no product crate calls, lemmas and definitions that nothing names, and
+names that a file of proofs or definitions brings in and doesn't use.
 
 A call is looked for in the crate itself and in the product crates that crates.txt has above it: all
 but those that try or time the others. It is found by its name and form alone, `.name(`, `Type::name`
@@ -203,13 +204,37 @@ def is_code(path):
     return path.suffix == ".rt"
 
 
+# Names that an .antt file brings in.
+
+BROUGHT = re.compile(r"^use (?:\S+\.\{(.*)\}|\S+ as (\S+)) *$", re.M)
+
+
+def unread():
+    """Each name that an .antt file brings in and doesn't use, which `rt tidy` takes out too."""
+    for path in (it for name in crates.uses() for it in files_of(TOP / "crates" / name)):
+        if is_code(path):
+            continue
+        text = path.read_text()
+        code = re.sub(r"--.*|^(?:pub )?use .*", "", text, flags=re.M)
+        for names, other in BROUGHT.findall(text):
+            for name in (it.split(" as ")[-1] for it in (names or other).split(", ")):
+                if not all(is_in(part, code) for part in name.split("◌") if part):
+                    yield f"{path.relative_to(TOP)} brings in {name}, and doesn't use it"
+
+
+def is_in(part, code):
+    """Whether a name, or a part of an operator's, stands in the code as a word of its own."""
+    return re.search(rf"(?<![\w'-]){re.escape(part)}(?![\w'-])" if WORD.match(part) else re.escape(part), code)
+
+
 def faults():
     """What nobody calls or names and isn't meant, and what is meant and called after all."""
     found = list(uncalled())
     paths = [it.path for it in found]
     told = [f"no product crate calls {it.path} ({it.file})" for it in found if it.path not in MEANT]
     told += [f"scripts/check/unused.py: {it} is called, or is no more" for it in MEANT if it not in paths]
-    return [*told, *(f"nothing names it: {it}" for it in unnamed())], len(MEANT) + 2
+    told += [f"nothing names it: {it}" for it in unnamed()]
+    return [*told, *unread()], len(MEANT) + 3
 
 
 if __name__ == "__main__":

@@ -1,5 +1,5 @@
 -- What is read of a token that a call brings, by the bytes that it carries.
-use Rattle.std.proofs.Common.{◌≡◌, ℕ, List, Ok, Err, ap, refl}
+use Rattle.std.proofs.Common.{◌≡◌, ℕ, List, Ok, ap, refl}
 use Rattle.mac_token.specs.Read.{carried_of, or_malformed, bare_of, token_of_read}
 use Rattle.mac_token.specs.Answers.{IsFault as IsTokenFault}
 use Rattle.mac_token.specs.declared.fault.TokenFault.{TokenFault}

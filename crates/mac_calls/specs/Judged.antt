@@ -1,6 +1,6 @@
 -- What is told of tokens in a context (this project's own): as the wire's verify is replied to, or
 -- which caveats hold.
-use Rattle.std.specs.Prelude.{ℕ, Bool, List, [], ◌++◌, map, codes, Option, Some, None, Ok, Err, if◌then◌else◌}
+use Rattle.std.specs.Prelude.{ℕ, Bool, List, ◌++◌, map, codes, Option, Some, None, Ok, Err, if◌then◌else◌}
 use Rattle.std.specs.Fmt.{decimal}
 use Rattle.serde_json.specs.Data.{Data, boolean, array, object, no_members, put}
 use Rattle.serde_json.specs.View.{items_of}

@@ -1,5 +1,5 @@
 -- How many connections there may be at the sockets of a daemon, and who gives way to a further one.
-use Rattle.std.specs.Prelude.{◌≡◌, ◌+◌, ◌-◌, ◌≤◌, ◌&&◌, ℕ, Bool, if◌then◌else◌, nat_lt}
+use Rattle.std.specs.Prelude.{◌+◌, ◌-◌, ◌≤◌, ◌&&◌, ℕ, Bool, if◌then◌else◌, nat_lt}
 use Rattle.mac_host.specs.declared.badge.Socket.{Socket}
 use Rattle.mac_host.specs.declared.badge.Socket.TheVariants.{Main, Side}
 use Rattle.mac_daemon.specs.declared.room.Entry.{Entry}

@@ -1,6 +1,6 @@
 -- What is answered with bytes is read again as the token that was asked for.
 use Rattle.std.proofs.Common.{◌≡◌, ◌↔◌, ℕ, zero, suc, ◌≤◌, List, [], ◌∷◌, ◌++◌, length, Option, Some, None, Result, Ok, Err, Bool, true, false, if◌then◌else◌, refl, sym, ap, ◌∙◌, subst, arith}
-use Rattle.std.specs.Prelude.{nat_lt, option_and_then}
+use Rattle.std.specs.Prelude.{nat_lt}
 use Rattle.std.specs.Int.{w16, to_be_bytes}
 use Rattle.std.specs.List.{All, flat_map}
 use Rattle.std.specs.Str.{IsUtf8}
@@ -21,14 +21,13 @@ use Rattle.mac_token.specs.declared.form.Form.{Form}
 use Rattle.mac_token.specs.declared.limits.TheConstants.{TOKEN_MAX}
 use Rattle.mac_token.proofs.Within.{is_within-Decides}
 use Rattle.mac_token.proofs.WrittenLaws.{written_read}
-use Rattle.mac_wire.specs.Request.{Asked, mint, attenuate, verify, Asks, IsBytes, payload_of, short_field, long_field, counted_fields}
+use Rattle.mac_wire.specs.Request.{mint, attenuate, verify, Asks, IsBytes, payload_of, short_field, long_field, counted_fields}
 use Rattle.mac_wire.specs.declared.arrival.Arrival.TheVariants.{Payload}
 use Rattle.mac_wire.specs.declared.reply.Refusal.TheVariants as refusal
 use Rattle.mac_wire.specs.declared.reply.Reply.{Reply}
 use Rattle.mac_wire.specs.declared.reply.Reply.TheVariants as reply
 use Rattle.mac_wire.specs.declared.request.TokenForm.{TokenForm}
-use Rattle.mac_wire.proofs.Asking.{request_of-asks, key_name_of-asks}
-use Rattle.mac_decide.specs.Answer.{refused, told, keyed, form_of, written_reply, token_reply, request_reply, reply_of, keys_of, answer_of, asked_basis, answer_to, IsGranted}
+use Rattle.mac_decide.specs.Answer.{refused, told, keyed, form_of, written_reply, token_reply, request_reply, keys_of, answer_of, asked_basis, IsGranted}
 use Rattle.mac_decide.specs.Minted.{Minted, minted, add}
 use Rattle.mac_decide.specs.Revocation.{is_listed_read}
 use Rattle.mac_decide.specs.Terms.{Terms}

@@ -1,5 +1,5 @@
 -- Verifies at the clock.
-use Rattle.std.proofs.Common.{◌≡◌, ◌↔◌, ℕ, List, Option, Some, None, Result, Ok, Err, refl, sym, ap, ◌∙◌, subst, Bool, false}
+use Rattle.std.proofs.Common.{◌≡◌, ◌↔◌, ℕ, List, Option, Some, None, Result, Ok, Err, refl, sym, ap, ◌∙◌, Bool, false}
 use Rattle.mac_keys.specs.Keys.{listed}
 use Rattle.mac_keys.specs.declared.keys.Keys.{Keys}
 use Rattle.mac_token.specs.RawToken.{TokenParts}
@@ -21,7 +21,7 @@ use Rattle.mac_decide.specs.declared.context.Context.{Context}
 use Rattle.mac_decide.specs.declared.verdict.Verdict.{Verdict}
 use Rattle.mac_decide.specs.declared.verdict.Verdict.TheVariants.{Granted, BadSignature, Unsatisfied}
 use Rattle.mac_decide.proofs.AnswerLemmas.{answer_of-asked}
-use Rattle.mac_decide.proofs.RevocationLemmas.{kept-granted, kept-owner, kept-refused, kept-with_owner}
+use Rattle.mac_decide.proofs.RevocationLemmas.{kept-owner, kept-refused, kept-with_owner}
 use Rattle.mac_decide.proofs.VerdictLemmas.{verdict_of-is, one_verdict}
 
 -- what is told under the keys that were found, at the moment that was told

@@ -1,34 +1,25 @@
 -- What is told where a token may have been taken back.
-use Rattle.std.proofs.Common.{◌≡◌, ℕ, List, Option, Some, None, Result, Ok, Err, Bool, true, false, Bor, refl, sym, ap, ◌∙◌, subst}
+use Rattle.std.proofs.Common.{◌≡◌, ℕ, List, Option, Some, Result, Ok, Err, Bool, true, false, Bor, refl, sym, ap, ◌∙◌}
 use Rattle.std.specs.Option.{option_copied}
 use Rattle.std.proofs.lemmas.Bool.{false≢true}
-use Rattle.mac_keys.specs.Keys.{listed}
-use Rattle.mac_keys.specs.Revoked.{Revoked, is_listed, nothing}
+use Rattle.mac_keys.specs.Revoked.{Revoked, is_listed}
 use Rattle.mac_keys.specs.declared.keys.Keys.{Keys}
 use Rattle.mac_token.specs.RawToken.{TokenParts}
-use Rattle.mac_token.specs.Read.{read_of}
 use Rattle.mac_token.specs.declared.fault.TokenRefusal.{TokenRefusal}
 use Rattle.mac_wire.specs.Reply.{IsReply}
-use Rattle.mac_wire.specs.Request.{Asked, asked, verify, verify_now}
+use Rattle.mac_wire.specs.Request.{Asked, asked}
 use Rattle.mac_wire.specs.declared.reply.Refusal.{Refusal}
 use Rattle.mac_wire.specs.declared.reply.Refusal.TheVariants as refusal
 use Rattle.mac_wire.specs.declared.reply.Reply.{Reply}
 use Rattle.mac_wire.specs.declared.reply.Reply.TheVariants as reply
-use Rattle.mac_wire.specs.declared.request.Grant.{Grant}
-use Rattle.mac_wire.specs.declared.request.Grant.TheVariants as grant
 use Rattle.mac_wire.specs.declared.request.Request.{Request}
 use Rattle.mac_wire.specs.declared.request.Request.TheVariants as request
-use Rattle.mac_decide.specs.Answer.{asked_reply, keyed, refused, request_reply, tells_minted, timed, told, unless_revoked, verdict_reply, verify_reply, with_owner}
+use Rattle.mac_decide.specs.Answer.{asked_reply, refused, request_reply, tells_minted, unless_revoked, with_owner}
 use Rattle.mac_decide.specs.Asking.{asking_reply}
-use Rattle.mac_decide.specs.Reading.{verdict_of}
-use Rattle.mac_decide.specs.Revocation.{asked_revoked, is_listed_read, request_revoked, tells_revoked}
-use Rattle.mac_decide.specs.Telling.{verdict_told, verify_told}
+use Rattle.mac_decide.specs.Revocation.{asked_revoked, is_listed_read, request_revoked}
 use Rattle.mac_decide.specs.declared.asking.Asking.{Asking}
-use Rattle.mac_decide.specs.declared.context.Context.{Context}
-use Rattle.mac_decide.specs.declared.job.Basis.{Basis}
 use Rattle.mac_decide.specs.declared.revocation.Revocation.{Revocation}
 use Rattle.mac_decide.specs.declared.revocation.Revocation.TheVariants.{Known, In}
-use Rattle.mac_decide.specs.declared.revocation.Telling.{Telling}
 
 -- ---- what such a reply says of the other
 

@@ -1,5 +1,5 @@
 -- Laws of tokens that were taken back.
-use Rattle.std.proofs.Common.{◌≡◌, ◌↔◌, ℕ, List, Option, Some, None, Result, Ok, Err, Bool, true, false, refl, sym, ap, ◌∙◌, subst}
+use Rattle.std.proofs.Common.{◌≡◌, ◌↔◌, ℕ, List, Option, Some, None, Result, Ok, Err, Bool, true, false, refl, sym, ap, ◌∙◌}
 use Rattle.mac_keys.specs.Keys.{listed}
 use Rattle.mac_keys.specs.Revoked.{Revoked, is_listed, nothing}
 use Rattle.mac_keys.specs.declared.keys.Keys.{Keys}
@@ -8,23 +8,20 @@ use Rattle.mac_token.specs.RawToken.{TokenParts}
 use Rattle.mac_token.specs.Read.{read_of}
 use Rattle.mac_token.specs.declared.fault.TokenRefusal.{TokenRefusal}
 use Rattle.mac_token.specs.declared.fault.TokenRefusal.TheVariants as token
-use Rattle.mac_wire.specs.Reading.{request_of}
 use Rattle.mac_wire.specs.Request.{Asked, mint, attenuate, verify, verify_now}
 use Rattle.mac_wire.specs.declared.arrival.Arrival.{Arrival}
-use Rattle.mac_wire.specs.declared.arrival.Arrival.TheVariants.{Payload, Oversize}
 use Rattle.mac_wire.specs.declared.reply.Refusal.TheVariants as refusal
 use Rattle.mac_wire.specs.declared.reply.Reply.{Reply}
 use Rattle.mac_wire.specs.declared.reply.Reply.TheVariants as reply
 use Rattle.mac_wire.specs.declared.request.Grant.TheVariants as grant
-use Rattle.mac_decide.specs.Answer.{answer_of, answer_to, basis_of, keyed, keys_for, keys_of, refused, reply_of, request_reply, tells_minted, told, unless_revoked, verdict_reply, verify_reply}
+use Rattle.mac_decide.specs.Answer.{answer_of, answer_to, basis_of, keyed, keys_of, refused, reply_of, request_reply, tells_minted, told, unless_revoked, verdict_reply, verify_reply}
 use Rattle.mac_decide.specs.Minted.{Minted, add}
-use Rattle.mac_decide.specs.Reading.{is_minted, verdict_of}
+use Rattle.mac_decide.specs.Reading.{verdict_of}
 use Rattle.mac_decide.specs.Revocation.{asked_in, is_arrival_revoked, is_asked_revoked, is_listed_read, is_revoked}
 use Rattle.mac_decide.specs.Seen.{is_minted_read}
 use Rattle.mac_decide.specs.Terms.{Terms, without_list}
 use Rattle.mac_decide.specs.Verdict.{IsVerdict}
 use Rattle.mac_decide.specs.declared.context.Context.{Context}
-use Rattle.mac_decide.specs.declared.job.Basis.{Basis}
 use Rattle.mac_decide.specs.declared.verdict.Verdict.{Verdict}
 use Rattle.mac_decide.specs.declared.verdict.Verdict.TheVariants.{Granted, BadSignature, Unsatisfied}
 use Rattle.mac_decide.proofs.RevocationLemmas.{kept-granted, kept-revoked, kept-told}

@@ -1,5 +1,5 @@
 -- Which key gives a signature, where a name has one alone.
-use Rattle.std.proofs.Common.{◌≡◌, ◌↔◌, ◌∙◌, ◌∷◌, ℕ, List, [], Bool, true, Result, Ok, Err, if◌then◌else◌, ap, refl, sym}
+use Rattle.std.proofs.Common.{◌≡◌, ◌↔◌, ◌∷◌, ℕ, List, [], Bool, true, Result, Ok, Err, if◌then◌else◌, ap, sym}
 use Rattle.mac_keys.specs.Keys.{listed}
 use Rattle.mac_keys.specs.declared.keys.Keys.{Keys}
 use Rattle.mac_token.specs.RawToken.{TokenParts}
@@ -8,7 +8,6 @@ use Rattle.mac_token.specs.declared.fault.TokenRefusal.{TokenRefusal}
 use Rattle.mac_decide.specs.Minted.{Minted}
 use Rattle.mac_decide.specs.Seen.{is_minted_read, is_minted_text}
 use Rattle.mac_decide.specs.Uses.{key_alone, signer_of}
-use Rattle.mac_decide.specs.declared.uses.Signer.{Signer}
 use Rattle.mac_decide.specs.declared.uses.Signer.TheVariants.{First, Second}
 use Rattle.mac_decide.proofs.VerdictLemmas.{minted-tested, tested-minted}
 

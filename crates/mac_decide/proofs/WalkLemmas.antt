@@ -1,5 +1,5 @@
 -- A walk over a token's caveats.
-use Rattle.std.proofs.Common.{◌≡◌, ℕ, zero, suc, arith, drop, ◌+◌, ◌<◌, ◌≤◌, List, [], ◌∷◌, take, length, get_or, Option, Some, None, MatchOption, sym, ap, ◌∙◌}
+use Rattle.std.proofs.Common.{◌≡◌, ℕ, zero, suc, arith, drop, ◌+◌, ◌≤◌, List, [], ◌∷◌, take, length, get_or, Option, Some, None, MatchOption, ap, ◌∙◌}
 use Rattle.std.specs.List.{All, slice_get}
 use Rattle.std.proofs.lemmas.List.{take_all, length-drop}
 use Rattle.std.proofs.lemmas.List.Elements.{All-more}

@@ -1,8 +1,6 @@
 -- Which requests are about tokens that were taken back (this project's own).
-use Rattle.std.specs.Prelude.{ℕ, List, Option, Some, None, Bool, true, false, if◌then◌else◌, Result, Ok, Err}
-use Rattle.mac_keys.specs.Keys.{listed}
+use Rattle.std.specs.Prelude.{ℕ, List, Option, Some, None, Bool, false, Result, Ok, Err}
 use Rattle.mac_keys.specs.Revoked.{Revoked, is_listed}
-use Rattle.mac_keys.specs.declared.keys.Keys.{Keys}
 use Rattle.mac_token.specs.RawToken.{TokenParts}
 use Rattle.mac_token.specs.Read.{read_of}
 use Rattle.mac_token.specs.declared.fault.TokenRefusal.{TokenRefusal}

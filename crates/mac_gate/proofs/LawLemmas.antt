@@ -7,10 +7,9 @@ use Rattle.http.specs.declared.request.Parts.{Parts}
 use Rattle.http_server.specs.Exchange.{Call}
 use Rattle.http_server.specs.Response.{IsResponse}
 use Rattle.http_server.specs.declared.response.Response.{Response}
-use Rattle.http_uri.specs.Uri.{uri_path}
 use Rattle.mac_http.specs.Facts.{one_value}
 use Rattle.mac_http.specs.Faced.{IsAnswerTo, MayClose}
-use Rattle.mac_http.specs.Page.{TellsIf, has_page, page_in}
+use Rattle.mac_http.specs.Page.{TellsIf, has_page}
 use Rattle.mac_http.specs.Saying.{IsOverloaded}
 use Rattle.mac_http.specs.declared.page.Page.{Page}
 use Rattle.mac_http.specs.declared.rules.Pages.{Pages}

@@ -5,7 +5,7 @@ use Rattle.std.specs.FinMap as map
 use Rattle.http.specs.declared.request.Parts.{Parts}
 use Rattle.http_uri.specs.Uri.{uri_path}
 use Rattle.mac_calls.specs.Counted.{are_few}
-use Rattle.mac_decide.specs.Answer.{answer_to, keyed, keys_of, refused, timed, unless_revoked, verify_reply}
+use Rattle.mac_decide.specs.Answer.{answer_to, keyed, keys_of, timed, unless_revoked, verify_reply}
 use Rattle.mac_decide.specs.Revocation.{is_listed_read}
 use Rattle.mac_decide.specs.Terms.{Terms, is_allowed}
 use Rattle.mac_keys.specs.KeyTable.{Table}
@@ -25,7 +25,7 @@ use Rattle.mac_http.specs.declared.rules.Rules.{Rules}
 use Rattle.mac_http.specs.declared.rules.Sources.{Sources}
 use Rattle.mac_http.specs.Authorization.{credentials_in}
 use Rattle.mac_http.specs.Facts.{facts_of, tells_fragment, tells_unsafe}
-use Rattle.mac_http.specs.Found.{IsHeld, found_at, found_by, found_few, found_in, found_of, found_under, found_with, terms_of}
+use Rattle.mac_http.specs.Found.{IsHeld, found_at, found_by, found_in, found_of, found_under, terms_of}
 use Rattle.mac_http.specs.Saying.{AreToldAlike}
 use Rattle.mac_http.specs.Target.{target_in}
 

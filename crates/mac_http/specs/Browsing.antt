@@ -1,7 +1,7 @@
 -- Requests that a page in a browser may have had sent to a port (this project's own): a browser says
 -- in `Origin` whose page asks (RFC 6454, section 7), in `Host` what it connects to (RFC 9110, section
 -- 7.2), and sends JSON to another site only once that has said that it may (Fetch, section 4.8).
-use Rattle.std.specs.Prelude.{ℕ, Bool, true, false, not, ◌==◌, ◌&&◌, ◌||◌, nat_le, nat_lt, position, unwrap_or, List, [], ◌∷◌, length, take, drop, map, codes, bytes_eq, Option, Some, None, option_map, if◌then◌else◌}
+use Rattle.std.specs.Prelude.{ℕ, Bool, true, false, not, ◌==◌, ◌&&◌, ◌||◌, nat_le, nat_lt, position, unwrap_or, List, [], ◌∷◌, length, take, drop, map, codes, bytes_eq, Option, Some, None, if◌then◌else◌}
 use Rattle.std.specs.List.{list_all}
 use Rattle.std.specs.Char.{to_ascii_lowercase}
 use Rattle.http.specs.declared.request.Parts.{Parts}

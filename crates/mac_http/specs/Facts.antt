@@ -1,5 +1,5 @@
 -- The facts that a request brings, by the sources that are named (this project's own).
-use Rattle.std.specs.Prelude.{ℕ, Bool, ◌==◌, nat_lt, nat_le, not, ◌&&◌, ◌||◌, false, position, unwrap_or, List, [], ◌∷◌, ◌++◌, length, take, map, codes, bytes_eq, Option, Some, None, option_map, if◌then◌else◌}
+use Rattle.std.specs.Prelude.{ℕ, Bool, ◌==◌, nat_lt, not, ◌&&◌, ◌||◌, false, position, unwrap_or, List, [], ◌∷◌, ◌++◌, length, take, map, codes, bytes_eq, Option, Some, None, option_map, if◌then◌else◌}
 use Rattle.std.specs.List.{flat_map, list_any}
 use Rattle.std.specs.Str.Lossy.{utf8_lossy}
 use Rattle.form_urlencoded.specs.Form.{raw_pairs, decode}

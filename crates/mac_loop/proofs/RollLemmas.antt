@@ -1,6 +1,6 @@
 -- What the clients in slots weigh, behind what is done to one. Where each weighs one it is how many
 -- there are.
-use Rattle.std.proofs.Common.{◌≡◌, ◌≢◌, ◌+◌, ◌∙◌, ℕ, zero, suc, List, [], ◌∷◌, Bool, true, false, Option, None, Some, Result, Ok, Err, IsOk, OnOk, ◌↔◌, ◌≤◌, not, is_some, cond, length, option_to_list, count_by, sum_by, slice_index_or, refl, sym, ap, add-zero, arith}
+use Rattle.std.proofs.Common.{◌≡◌, ◌≢◌, ◌+◌, ◌∙◌, ℕ, zero, suc, List, [], ◌∷◌, true, false, Option, None, Some, Result, Ok, Err, IsOk, OnOk, ◌↔◌, ◌≤◌, not, is_some, cond, length, option_to_list, count_by, sum_by, slice_index_or, refl, sym, ap, add-zero, arith}
 use Rattle.std.proofs.lemmas.List.Sums.{sum_by-cons}
 use Rattle.mac_slots.specs.Slots.{Slot, Slots, Free, Lent, Held, at, held, is_free, with_held, with_listed, Becomes}
 use Rattle.mac_sockets.proofs.Weighed.{weighed-same, weighed-with_held, weighed-with_listed}

@@ -1,10 +1,10 @@
 -- Of which tokens that are verified the identifier is told.
-use Rattle.std.proofs.Common.{◌≡◌, ◌∙◌, ℕ, List, take, Bool, true, false, Option, Some, None, Result, Ok, Err, refl, sym, ap, subst}
+use Rattle.std.proofs.Common.{◌≡◌, ◌∙◌, ℕ, List, take, Bool, true, false, Option, Some, None, Result, Ok, Err, refl, sym, ap}
 use Rattle.std.specs.Prelude.{◌==◌, if◌then◌else◌}
 use Rattle.mac_decide.proofs.AnswerLemmas.{answer_of-asked}
 use Rattle.mac_decide.proofs.RevocationLemmas.{kept-refused}
 use Rattle.mac_decide.proofs.VerdictLemmas.{verdict_of-is}
-use Rattle.mac_decide.specs.Answer.{answer_of, answer_to, keyed, keys_of, refused, timed, told, unless_revoked, verdict_reply, verify_reply}
+use Rattle.mac_decide.specs.Answer.{answer_of, keyed, keys_of, refused, timed, told, unless_revoked, verdict_reply, verify_reply}
 use Rattle.mac_decide.specs.Minted.{Minted}
 use Rattle.mac_decide.specs.Reading.{verdict_of}
 use Rattle.mac_decide.specs.Revocation.{is_listed_read}
@@ -22,7 +22,6 @@ use Rattle.mac_token.specs.Read.{read_of}
 use Rattle.mac_token.specs.declared.fault.TokenRefusal.{TokenRefusal}
 use Rattle.mac_token.specs.declared.fault.TokenRefusal.TheVariants as token
 use Rattle.mac_wire.proofs.Asking.{request_of-asks}
-use Rattle.mac_wire.specs.Reading.{request_of}
 use Rattle.mac_wire.specs.Reply.{kind_of, refusal_code}
 use Rattle.mac_wire.specs.Request.{Asked, Asks, key_of, mint, attenuate, verify, verify_now}
 use Rattle.mac_wire.specs.declared.arrival.Arrival.TheVariants.{Payload}

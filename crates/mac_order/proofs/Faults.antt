@@ -1,5 +1,5 @@
 -- What a buffer's faults say, and what follows where there is none.
-use Rattle.std.proofs.Common.{◌≡◌, ℕ, ◌+◌, ◌-◌, ◌<◌, ◌≤◌, ◌^◌, false, if◌then◌else◌, length, None, arith}
+use Rattle.std.proofs.Common.{◌≡◌, ℕ, ◌+◌, ◌-◌, ◌<◌, ◌≤◌, ◌^◌, false, length, None, arith}
 use Rattle.std.proofs.lemmas.Bool.Decides.{nat_tests}
 use Rattle.mac_order.specs.Buffer.{Buffer, open_fault, settle_fault, place_to_open}
 use Rattle.mac_order.specs.declared.reorder.TheConstants.{SLOTS}

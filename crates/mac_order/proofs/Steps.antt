@@ -1,6 +1,5 @@
 -- What a step gives where the connection and the worker are known.
-use Rattle.std.proofs.Common.{◌≡◌, ◌≢◌, ℕ, zero, suc, set, List, [], ◌∷◌, Option, Some, None, slice_get, sym, ◌∙◌, ap, refl}
-use Rattle.std.proofs.lemmas.Bool.{false≢true}
+use Rattle.std.proofs.Common.{◌≡◌, ◌≢◌, ℕ, zero, suc, set, List, [], ◌∷◌, Option, Some, None, slice_get, sym, ap, refl}
 use Rattle.std.proofs.lemmas.Option.{none-some, same_Some}
 use Rattle.mac_order.specs.declared.event.Assignment.{Assignment}
 use Rattle.mac_order.specs.declared.event.Outcome.{Outcome}

@@ -1,6 +1,6 @@
 -- What one event does, by cases, the first that holds. What a case does not name stays.
 -- All of it is this project's own.
-use Rattle.std.specs.Prelude.{◌≡◌, ℕ, Bool, true, false, not, ◌&&◌, if◌then◌else◌, nat_lt, nat_le, [], ◌∷◌, ◌++◌, length, slice_get, slice_set, Option, None, Some}
+use Rattle.std.specs.Prelude.{ℕ, Bool, true, false, not, ◌&&◌, if◌then◌else◌, nat_lt, nat_le, [], ◌∷◌, ◌++◌, length, slice_get, slice_set, Option, None, Some}
 use Rattle.std.specs.FinSet.{contains, insert}
 use Rattle.mac_order.specs.State.{Connection, State, unsent}
 use Rattle.mac_order.specs.declared.reorder.TheConstants.{SLOTS}

@@ -1,6 +1,6 @@
 -- Requests that are asked of the site by its own page, and others.
 use Rattle.std.proofs.Common.{◌≡◌, ◌⊎◌, ℕ, List, [], Bool, true, false, Option, Some, None, inl, inr, refl, subst, ap, ⊎_elim}
-use Rattle.std.specs.Prelude.{◌&&◌, bytes_eq, codes, length, string_bytes}
+use Rattle.std.specs.Prelude.{bytes_eq, codes, length, string_bytes}
 use Rattle.std.proofs.lemmas.Bool.{and_parts, false≢true}
 use Rattle.std.proofs.lemmas.Slice.Eq.{bytes_eq-Decides}
 use Rattle.http.specs.Request.{head_of}

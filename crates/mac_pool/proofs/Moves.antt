@@ -2,7 +2,6 @@
 use Rattle.std.proofs.Common.{◌≡◌, ℕ, ◌+◌, ◌≤◌, ◌<◌, List, ◌∷◌, ◌++◌, [], length, length-set, map, set, Option, None, Some, slice_get, sym, ◌∙◌, ap, refl, subst, arith, append_assoc, All}
 use Rattle.std.proofs.lemmas.List.{length-map}
 use Rattle.atomic_table.specs.Seated.{TableId}
-use Rattle.mac_mail.specs.declared.receipt.Delivery.{Delivery}
 use Rattle.mac_queue.specs.Pass.{Pass}
 use Rattle.mac_queue.specs.declared.queue.tally.Tally.{Tally}
 use Rattle.mac_pool.specs.Parcel.{Pairwise, IsAnswered}

@@ -1,5 +1,5 @@
 -- The whole of running threads: the workers of a pool, and the connections that they answer.
-use Rattle.std.specs.Prelude.{◌≡◌, ℕ, List, [], length, Some, slice_get}
+use Rattle.std.specs.Prelude.{◌≡◌, ℕ, List, length, Some, slice_get}
 use Rattle.std.specs.List.{flat_map}
 use Rattle.atomic_table.specs.Seated.{TableId}
 use Rattle.mac_queue.specs.Lists.{IsSplitInto}

@@ -1,5 +1,5 @@
 -- What the connections in slots weigh, behind what is done to a slot.
-use Rattle.std.proofs.Common.{◌≡◌, ◌+◌, ◌∙◌, ℕ, zero, suc, List, [], ◌∷◌, ◌++◌, Bool, true, false, ◌||◌, nat_lt, cond, Some, sum_by, slice_index_or, slice_set, refl, arith}
+use Rattle.std.proofs.Common.{◌≡◌, ◌+◌, ℕ, zero, suc, List, [], ◌∷◌, ◌++◌, true, false, ◌||◌, nat_lt, cond, Some, sum_by, slice_index_or, slice_set, refl, arith}
 use Rattle.std.proofs.lemmas.List.Sums.{sum_by-cons}
 use Rattle.mac_slots.specs.Slots.{Slot, Slots, Free, Lent, Held, at, held, is_free, times, with_held, with_listed}
 use Rattle.mac_sockets.specs.Connections.{weight_of, weighed}

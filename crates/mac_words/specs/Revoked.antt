@@ -1,5 +1,5 @@
 -- Lines of a list of tokens that were taken back, as they are made and taken out.
-use Rattle.std.specs.Prelude.{◌≡◌, ◌==◌, ℕ, Bool, true, false, not, List, [], ◌∷◌, ◌++◌, codes, filter, if◌then◌else◌, IsTrue, Result, Ok, Err}
+use Rattle.std.specs.Prelude.{◌≡◌, ◌==◌, ℕ, Bool, false, not, List, [], ◌∷◌, ◌++◌, codes, filter, if◌then◌else◌, IsTrue, Result, Ok, Err}
 use Rattle.std.specs.Fmt.{decimal}
 use Rattle.std.specs.List.{ends_with}
 use Rattle.std.specs.declared.alloc.Global.{Global}

@@ -1,5 +1,5 @@
 -- Desks that are written anew where they stand.
-use Rattle.std.proofs.Common.{◌≡◌, ℕ, ◌<◌, List, length, slice_set, slice_index_or, All, ap, ◌∙◌, length-set}
+use Rattle.std.proofs.Common.{◌≡◌, ℕ, ◌<◌, List, length, slice_set, slice_index_or, ap, ◌∙◌, length-set}
 use Rattle.std.proofs.lemmas.List.Elements.{All-set}
 use Rattle.mac_queue.specs.declared.desk.Desk.{Desk}
 use Rattle.try_pool.specs.Desks.{AreMoved}

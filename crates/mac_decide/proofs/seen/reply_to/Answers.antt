@@ -1,6 +1,5 @@
-use Rattle.std.proofs.Common.{◌≡◌, ap, ◌∙◌, ℕ, List}
+use Rattle.std.proofs.Common.{ap, ◌∙◌, ℕ, List}
 use Rattle.mac_keys.specs.Keys.{listed}
-use Rattle.mac_wire.specs.declared.reply.Reply.{Reply}
 use Rattle.mac_decide.specs.Answer.{unless_revoked, verdict_reply}
 use Rattle.mac_decide.specs.Revocation.{tells_revoked}
 use Rattle.mac_decide.proofs.SeenLemmas.{seen-verdict}

@@ -1,4 +1,4 @@
-use Rattle.std.proofs.Common.{◌≡◌, ◌<◌, ℕ, List, [], ◌∷◌, length, slice_index_or, arith}
+use Rattle.std.proofs.Common.{◌<◌, ℕ, List, [], ◌∷◌, slice_index_or, arith}
 use Rattle.sha256x8.specs.Begun.{IsBegun}
 use Rattle.sha256x8.proofs.LaneWise.{below_eight}
 use Rattle.mac_hmac.specs.Hmac.{outer_block}

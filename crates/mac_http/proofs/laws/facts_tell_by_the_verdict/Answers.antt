@@ -1,4 +1,4 @@
-use Rattle.std.proofs.Common.{◌∙◌, sym, Some}
+use Rattle.std.proofs.Common.{◌∙◌, sym}
 use Rattle.mac_decide.specs.Revocation.{is_listed_read}
 use Rattle.mac_token.specs.Read.{read_of}
 use Rattle.mac_http.specs.Facts.{facts_of}

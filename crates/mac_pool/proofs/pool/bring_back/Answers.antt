@@ -3,7 +3,7 @@ use Rattle.std.specs.declared.thread.PromisedHandle.{PromisedHandle}
 use Rattle.mac_pool.specs.declared.work.Worked.{Worked}
 use Rattle.mac_pool.specs.declared.pool.FromPass.{FromPass}
 use Rattle.mac_queue.specs.Pass.{Pass}
-use Rattle.mac_pool.specs.Pool.{AreIdle, IsWorkers, HasAnswered, HaveAnswered, passes_of}
+use Rattle.mac_pool.specs.Pool.{AreIdle, IsWorkers, HasAnswered, passes_of}
 use Rattle.mac_pool.proofs.Slots.{each_last, each_front, each_push, map_push}
 use Rattle.mac_pool.proofs.Moves.{worked_is, came_more}
 use Rattle.mac_pool.proofs.pool.bring_back.Goals as goal

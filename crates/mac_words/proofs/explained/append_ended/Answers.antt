@@ -1,7 +1,6 @@
 use Rattle.std.proofs.Common.{codes, pos, ◌-ℤ◌, rules, arith, FitsSigned, w64}
 use Rattle.std.proofs.lemmas.Int.{ints, to_z-of_z}
 use Rattle.std.specs.Fmt.{signed_decimal}
-use Rattle.std.specs.Int.{w128}
 use Rattle.mac_words.proofs.Appends.{five}
 use Rattle.mac_words.proofs.explained.append_ended.Goals as goal
 

@@ -1,4 +1,4 @@
-use Rattle.std.proofs.Common.{◌≡◌, ◌∙◌, rules}
+use Rattle.std.proofs.Common.{◌∙◌}
 use Rattle.mac_wire.specs.declared.request.TheConstants.{FACTS_MAX}
 use Rattle.mac_words.specs.Payload.{texts_of}
 use Rattle.mac_words.specs.declared.fault.FieldFault.TheVariants as fault

@@ -1,9 +1,9 @@
-use Rattle.std.proofs.Common.{rules, tests, ◌≡◌, ◌==◌, ◌++◌, ◌∷◌, [], ℕ, List, Bool, true, false, Bor, ap, sym, subst, ◌∙◌}
+use Rattle.std.proofs.Common.{rules, tests, ◌≡◌, ◌==◌, ℕ, List, Bool, true, Bor, ap, ◌∙◌}
 use Rattle.std.specs.Prelude.{not, filter, map}
 use Rattle.std.proofs.lemmas.Iterator.Consumers.{YieldsList-at, YieldsList-end}
 use Rattle.std.proofs.lemmas.Iterator.Splits.{YieldsList-from_slice_split}
 use Rattle.mac_words.specs.Revoked.{joined, says}
-use Rattle.mac_words.proofs.KeptLines.{Keeps, keeps-first, keeps-more, kept-line}
+use Rattle.mac_words.proofs.KeptLines.{keeps-first, keeps-more, kept-line}
 use Rattle.mac_words.proofs.revoked.without_revoked.Goals.{then-not-is_first+in_ok-extend_from_slice, else-not-is_first}
 use Rattle.mac_words.proofs.revoked.without_revoked.Goals as goal
 

@@ -1,4 +1,3 @@
-use Rattle.std.proofs.Common.{◌≡◌, List}
 use Rattle.std.specs.Prelude.{not, filter, map}
 use Rattle.mac_words.specs.Revoked.{says}
 use Rattle.mac_words.proofs.KeptLines.{Keeps}

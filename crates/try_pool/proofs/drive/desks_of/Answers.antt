@@ -1,4 +1,4 @@
-use Rattle.std.proofs.Common.{◌≡◌, ℕ, ◌∙◌, ap, subst}
+use Rattle.std.proofs.Common.{ℕ, ◌∙◌, ap, subst}
 use Rattle.atomic_table.specs.Seated.{TableId}
 use Rattle.mac_pool.specs.Pool.{Slots}
 use Rattle.try_pool.specs.Desks.{AreAt}

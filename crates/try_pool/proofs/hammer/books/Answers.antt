@@ -1,4 +1,4 @@
-use Rattle.std.proofs.Common.{◌≡◌, ◌∙◌, sym, subst}
+use Rattle.std.proofs.Common.{◌∙◌, sym, subst}
 use Rattle.atomic_table.specs.Seated.{TableId}
 use Rattle.try_pool.specs.Desks.{AreAt}
 use Rattle.try_pool.proofs.hammer.books.Goals as goal

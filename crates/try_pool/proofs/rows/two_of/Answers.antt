@@ -1,4 +1,4 @@
-use Rattle.std.proofs.Common.{◌≡◌, ℕ, List, ◌∷◌, ap, sym, ◌∙◌}
+use Rattle.std.proofs.Common.{ℕ, List, ◌∷◌, ap, sym, ◌∙◌}
 use Rattle.mac_queue.specs.Pass.{Pass}
 use Rattle.try_pool.proofs.Firsts.{two_at}
 use Rattle.try_pool.proofs.rows.two_of.Goals as goal

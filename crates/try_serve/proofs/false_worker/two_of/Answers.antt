@@ -1,4 +1,4 @@
-use Rattle.std.proofs.Common.{◌≡◌, ℕ, List, ◌∷◌, ap, sym, ◌∙◌}
+use Rattle.std.proofs.Common.{List, ◌∷◌, ap, sym, ◌∙◌}
 use Rattle.mac_decide.specs.declared.job.Job.{Job}
 use Rattle.mac_queue.specs.Pass.{Pass}
 use Rattle.try_serve.proofs.Firsts.{two_at}

@@ -1,4 +1,4 @@
-use Rattle.std.proofs.Common.{Some, sym, ap, subst, ◌∙◌}
+use Rattle.std.proofs.Common.{sym, ap, subst, ◌∙◌}
 use Rattle.std.proofs.lemmas.Result.{on_ok_weaker}
 use Rattle.mac_keys.specs.Filter.{AdmitsAll, hash_of, may_have}
 use Rattle.mac_keys.proofs.FilterLemmas.{admits-with}

@@ -1,4 +1,4 @@
-use Rattle.std.proofs.Common.{◌∙◌, arith, refl, sym, None, Some}
+use Rattle.std.proofs.Common.{◌∙◌, arith, refl, sym, None}
 use Rattle.std.proofs.lemmas.Grind.{common_steps}
 use Rattle.mac_slots.specs.Slots.{Free}
 use Rattle.mac_loop.specs.Roll.{unsent_held, unsent_of}
