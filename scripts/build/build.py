@@ -22,6 +22,7 @@ import typing
 
 sys.path.insert(0, str(pathlib.Path(__file__).resolve().parents[1]))
 from build import lanes, proving, rooms
+from check import costs
 from common import TOP, crates, programs
 
 CRATE = TOP / "crates" / "macaroond"
@@ -141,7 +142,7 @@ def clear(*levels):
 def building(name, words=(), level=OLDER):
     """The task to build a program, once it or what it stands on is proved."""
     waits = {name} if name == "macaroond" else crates.below(name)
-    return lanes.Task(waits, crates.lines(name), lambda _: built(name, words, level))
+    return lanes.Task(waits, costs.estimated(name), lambda _: built(name, words, level))
 
 
 def build(wanted, others):

@@ -16,7 +16,7 @@ class Task(typing.NamedTuple):
     """What it waits for, how much work it is, and a call that is told how many jobs it may use."""
 
     waits: typing.Iterable[str]
-    weight: int
+    weight: float
     call: typing.Callable[[int], object]
 
 
@@ -38,19 +38,27 @@ def chains(tasks):
     return behind
 
 
+def share(idle, others, is_longest, lanes):
+    """How many jobs a task may use, beside so many others that are ready. One for which the longest chain waits has
+    half of all lanes at least, though fewer be idle."""
+    least = lanes // 2 if is_longest else 1
+    return max(1, least, min(MOST_JOBS, idle // (others + 1)))
+
+
 def run(tasks, lanes):
     """Does all tasks, and gives what each came to. A task that fails ends it: no other is begun."""
     behind = chains(tasks)
     left, running, came = sorted(tasks, key=lambda it: -behind[it]), {}, {}
     with ThreadPoolExecutor(max(lanes, 1)) as pool:
         while left or running:
+            longest = max(behind[name] for name in (*left, *(it for it, _ in running.values())))
             ready = [name for name in left if all(it in came for it in tasks[name].waits)]
             for at, name in enumerate(ready):
                 idle = lanes - sum(jobs for _, jobs in running.values())
                 if idle <= 0:
                     break
                 left.remove(name)
-                jobs = max(1, min(MOST_JOBS, idle // (len(ready) - at)))
+                jobs = share(idle, len(ready) - at - 1, behind[name] == longest, lanes)
                 running[pool.submit(tasks[name].call, jobs)] = name, jobs
             for done in wait(running, return_when=FIRST_COMPLETED).done:
                 name, _ = running.pop(done)

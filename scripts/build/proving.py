@@ -7,6 +7,7 @@ import sys
 import time
 
 from build import lanes, rooms
+from check import costs
 from common import TOP, crates
 
 # The file in out/ that tells what a crate's proof rested on.
@@ -106,7 +107,7 @@ def tasks(names):
     """A task for each of these crates, behind those of them that it stands on."""
     chosen = [it for it in crates.in_order() if it in names]
     return {
-        it: lanes.Task(crates.below(it) & {*chosen}, crates.lines(it), lambda jobs, it=it: prove(it, jobs))
+        it: lanes.Task(crates.below(it) & {*chosen}, costs.estimated(it), lambda jobs, it=it: prove(it, jobs))
         for it in chosen
     }
 

@@ -71,6 +71,16 @@ def record(costs):
     RECORD.write_text(HEAD + "\n".join(sorted(rows)) + "\n")
 
 
+def estimated(name):
+    """What the crate's proof may take: what it took when it was measured, by the lines that it has now, and as much
+    for each line as all of these where it wasn't."""
+    known = recorded()
+    minutes, lines = sum(it.proof for it in known.values()), sum(it.lines for it in known.values())
+    if name in known:
+        minutes, lines = known[name].proof, known[name].lines
+    return crates.lines(name) * minutes / lines
+
+
 def edits_of(name):
     """How many wrong bodies of the crate the gate tries."""
     return len([*(TOP / "crates" / name / "must-fail").glob("*.edit")])
