@@ -210,12 +210,13 @@ BROUGHT = re.compile(r"^use (?:\S+\.\{(.*)\}|\S+ as (\S+)) *$", re.M)
 
 
 def unread():
-    """Each name that an .antt file brings in and doesn't use, which `rt tidy` takes out too."""
+    """Each name that an .antt file brings in and doesn't use, which `rt tidy` takes out too. An arrow is the operator
+    that it stands for."""
     for path in (it for name in crates.uses() for it in files_of(TOP / "crates" / name)):
         if is_code(path):
             continue
         text = path.read_text()
-        code = re.sub(r"--.*|^(?:pub )?use .*", "", text, flags=re.M)
+        code = re.sub(r"--.*|^(?:pub )?use .*", "", text, flags=re.M).replace("←", ">>=")
         for names, other in BROUGHT.findall(text):
             for name in (it.split(" as ")[-1] for it in (names or other).split(", ")):
                 if not all(is_in(part, code) for part in name.split("◌") if part):

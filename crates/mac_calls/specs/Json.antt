@@ -16,7 +16,7 @@ use Rattle.mac_calls.specs.Fault.{body_reason, reason}
 use Rattle.mac_calls.specs.Form.{form_of_text, form_word}
 use Rattle.mac_calls.specs.Members.{has_identifier, token_in}
 use Rattle.mac_calls.specs.Received.{received}
-use Rattle.mac_calls.specs.Steps.{Step}
+use Rattle.mac_calls.specs.Steps.{Step, ◌>>=◌}
 use Rattle.mac_calls.specs.Warned.{warnings_member}
 use Rattle.std.specs.Prelude.{Ok}
 

@@ -18,7 +18,7 @@ use Rattle.mac_calls.specs.Asking.{basis_of}
 use Rattle.mac_calls.specs.Counted.{are_few}
 use Rattle.mac_calls.specs.Form.{form_of_text, wire_form}
 use Rattle.mac_calls.specs.Members.{caveats_in, form_in, identifier_in, location_in, token_in}
-use Rattle.mac_calls.specs.Steps.{Step}
+use Rattle.mac_calls.specs.Steps.{Step, ◌>>=◌}
 use Rattle.mac_calls.specs.Warned.{all_warnings}
 
 -- the base64 text of a token's bytes, or Limit where it is longer than a token may be
