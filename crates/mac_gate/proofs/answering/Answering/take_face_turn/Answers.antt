@@ -26,10 +26,10 @@ returns g c =
     c.args.connection.now c.take_turn-written.new.connection _ c.take_turn-written.ensures.turn (λ face. known_of face.keys) (λ face. face.rules)
     (λ s q r t x. (x.0, x.1, x.2, x.3, x.5)) own c.args.way are in
     followed_turn own c.args.way _ _ (known_of first.keys) (known_of last.keys)
-    (ap known_to c.in-Some.is ∙ ap (λ keys. Some (known_of keys)) (sym c.new-face.ensures.keys)) (ap (λ keys. Some (known_of keys)) c.into_keys.ensures)
+    (ap known_to (sym c.take.ensures.value ∙ c.in-Some.is) ∙ ap (λ keys. Some (known_of keys)) (sym c.new-face.ensures.keys)) (ap (λ keys. Some (known_of keys)) c.into_keys.ensures)
     c.args.heard.now.now c.take_turn-written.new.reader.now c.args.spoken.now.went.bytes c.take_turn-written.new.writer.went.bytes c.args.connection.now c.take_turn-written.new.connection turn
 
 pub returns-in_default : goal.returns-in_default
 returns-in_default g c =
-    let none = ap (λ keys. known_to keys) c.in_default.is in
-    no_keys_turn c.args.own.now c.args.way (known_to c.args.self.now.keys) _ none none c.args.heard.now.now c.args.spoken.now.went.bytes c.args.connection.now
+    no_keys_turn c.args.own.now c.args.way _ _ (ap known_to (sym c.take.ensures.value ∙ c.in_default.is)) (ap known_to c.take.ensures.after)
+    c.args.heard.now.now c.args.spoken.now.went.bytes c.args.connection.now
