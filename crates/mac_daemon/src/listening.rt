@@ -259,7 +259,7 @@ where
     let work = move || -> Result<Day, DaemonFault>
         ensures { IfOk result
             (IsWholeDay service.count (length service.idlers.made.items) service.workers
-                service.entrance) }
+            service.entrance) }
     {
         let outcome = run_fleet(&rt, alloc, service, &followers, &ending);
         ending.finish(&rt);
