@@ -15,7 +15,7 @@ use crate::asking::Asking;
 use crate::job_view::{ArrivalView, JobView};
 use crate::looking::{Sight, asking_of, look_at_job};
 use crate::part::MintedText;
-use crate::seen::SeenTokens;
+use crate::seen::{SEEN_MAX, SeenTokens};
 use crate::signer::{find_signer, likely_signer};
 use crate::uses::KeyUse;
 use mac_keys::Keys;
@@ -69,16 +69,20 @@ fn remember_payload(
     }
 }
 
-/// Remembers the token of a verify whose reply tells that it is minted.
+/// Remembers the token of a verify whose reply tells that it is minted. It is read and hashed once it
+/// is kept, and no sooner.
 fn remember(seen: &SeenTokens, alloc: Global, asking: &Asking<'_>, reply: &Reply)
     requires { reply.now ≡ asking_reply asking.now }
 {
     if !tells_minted(reply) {
         return;
     }
-    if let Some(keyed) = keyed_text(asking) {
+    let Some(keyed) = keyed_text(asking) else {
+        return;
+    };
+    if let Some(mark) = seen.mark_again(keyed.text) {
         if let Ok(found) = signed_text(alloc, &keyed) {
-            seen.note(alloc, &found);
+            seen.keep(alloc, mark, &found);
         }
     }
 }
@@ -115,11 +119,15 @@ pub(crate) fn note(seen: &SeenTokens, alloc: Global, asking: &Asking<'_>, reply:
     }
 }
 
-/// The same of a verify whose reply tells that its token is minted.
+/// The same of a verify whose reply tells that its token is minted. Of one that is too long to be
+/// remembered it isn't looked at which of two keys signed it.
 fn note_minted(seen: &SeenTokens, alloc: Global, keyed: &KeyedText<'_>, reply: &Reply)
     requires { is_minted_text keyed.now.keys.now keyed.now.text.now ≡ true }
 {
-    if let Ok(found) = signed_text(alloc, keyed) {
+    if keyed.text.len() > SEEN_MAX {
+        let used = KeyUse::of_verify(reply, likely_signer(keyed.keys));
+        seen.count(alloc, keyed.name, used);
+    } else if let Ok(found) = signed_text(alloc, keyed) {
         seen.count(alloc, found.name, KeyUse::of_verify(reply, found.signer));
         seen.note(alloc, &found);
     }

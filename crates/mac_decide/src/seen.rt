@@ -277,25 +277,22 @@ impl SeenTokens {
     pub(crate) fn note(&self, alloc: Global, found: &MintedText<'_>)
         requires { IsMintedText found.now }
     {
-        if let Some(mark) = self.mark(found.text) {
-            if self.is_again(mark) {
-                self.keep(alloc, mark, found);
-            }
+        if let Some(mark) = self.mark_again(found.text) {
+            self.keep(alloc, mark, found);
         }
     }
 
-    /// Whether a token of this mark, which is found to be minted, came before. That it came is
-    /// noted.
-    fn is_again(&self, mark: u64) -> bool {
-        match &self.shared {
-            Some(shared) => shared.is_again(mark),
-            None => false,
-        }
+    /// The mark of a text that is found to be minted, where it came before and may be kept. That it
+    /// came is noted.
+    pub(crate) fn mark_again(&self, text: &[u8]) -> Option<u64> {
+        let mark = self.mark(text)?;
+        let is_again = self.shared.as_ref()?.is_again(mark);
+        is_again.then_some(mark)
     }
 
     /// Keeps the token of a text of this mark. It isn't kept where there is no memory for it or its
     /// part is taken; where others would have to give way, one in eight is.
-    fn keep(&self, alloc: Global, mark: u64, found: &MintedText<'_>)
+    pub(crate) fn keep(&self, alloc: Global, mark: u64, found: &MintedText<'_>)
         requires { IsMintedText found.now }
     {
         if let Some(mut guard) = self.write_part(mark) {
