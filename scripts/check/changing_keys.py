@@ -148,6 +148,11 @@ class Load:
     def await_asked(self, count):
         awaited(lambda: self.asked() >= count or self.wrong())
 
+    def await_batch(self):
+        """Waits until each connection has begun and ended a batch from now on; one that is under way doesn't count."""
+        due = [one.asked + 2 * one.rounds * len(one.requests) for one in self.askers]
+        awaited(lambda: all(one.asked >= count for one, count in zip(self.askers, due)) or self.wrong())
+
     def wrong(self):
         return self.faults + [wrong for one in self.askers for wrong in one.wrong]
 
@@ -289,6 +294,7 @@ def swapped():
                 is_gone = probe.await_reply(verify("bank", gone), BAD_SIGNATURE)
                 yield "swapped: the last is up", is_gone, True
                 yield "swapped: and grants", probe.ask(verify("bank", last)), GRANTED
+            running.await_batch()
         yield "swapped: each reply is right under one", running.wrong(), []
         yield "swapped: never both at once", both_at_once(running), []
 
