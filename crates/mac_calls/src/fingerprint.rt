@@ -9,13 +9,14 @@ use std::alloc::{AllocError, Global};
 /// What each key signs for its fingerprint.
 const FINGERPRINTED: &[u8] = b"macaroond fingerprint";
 
-/// Appends the fingerprint of a key: eight hexadecimal digits, which are the first four bytes of the
-/// HMAC of a fixed text under it.
+/// Appends the fingerprint of a key: eight hexadecimal digits, which are the first four bytes of
+/// the HMAC of a fixed text under it.
 ///
-/// It gives away neither the key nor a token. HMAC with SHA-256 is taken for a pseudorandom function,
-/// on which tokens rest too: its bytes for one text say nothing of the key, nor of those for another.
-/// They would begin the signature of a token with that text for its identifier, whose other 28 bytes
-/// nobody is told. Guesses of a weak secret can be tried on a fingerprint, as on any token.
+/// It gives away neither the key nor a token. HMAC with SHA-256 is taken for a pseudorandom
+/// function, on which tokens rest too: its bytes for one text say nothing of the key, nor of those
+/// for another. They would begin the signature of a token with that text for its identifier, whose
+/// other 28 bytes nobody is told. Guesses of a weak secret can be tried on a fingerprint, as on any
+/// token.
 pub fn append_fingerprint(alloc: Global, key: &RootKey, out: &mut Vec<u8>) -> Result<(), AllocError>
     ensures { OnOk result (out.new.items ≡ out.old.items ++ fingerprint key.now) }
 {

@@ -1,8 +1,8 @@
 //! Calls that bring JSON: a token minted, narrowed, looked at or judged.
 //!
 //! [`answer`] takes a [`Call`] with the bytes of its body and some random ones, and gives the
-//! [`Outcome`]: the JSON text of a reply, or of a refusal, or that the key isn't there. `docs/FORMATS.md` has the members.
-//! Nothing here knows of HTTP, and nothing reads a device.
+//! [`Outcome`]: the JSON text of a reply, or of a refusal, or that the key isn't there.
+//! `docs/FORMATS.md` has the members. Nothing here knows of HTTP, and nothing reads a device.
 #![tactic(auto)]
 
 mod answering;

@@ -34,8 +34,8 @@ pub(crate) struct NewToken {
     pub(crate) warnings: Vec<u8>,
 }
 
-/// The token that an object asks for, under the first of the keys, and what is told of its caveats at
-/// a moment; in the form V2 where it asks for none.
+/// The token that an object asks for, under the first of the keys, and what is told of its caveats
+/// at a moment; in the form V2 where it asks for none.
 pub(crate) fn minted(
     alloc: Global,
     keys: &Keys,
@@ -104,8 +104,8 @@ fn new_counted(
     made_text(alloc, form, reply)
 }
 
-/// The text of an object's token with the object's caveats behind its own, in the form that is asked
-/// for, or else in the token's, and what is told of these caveats at a moment.
+/// The text of an object's token with the object's caveats behind its own, in the form that is
+/// asked for, or else in the token's, and what is told of these caveats at a moment.
 pub(crate) fn attenuated(
     alloc: Global,
     moment: u64,

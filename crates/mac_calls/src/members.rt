@@ -24,8 +24,8 @@ fn text_of(why: BodyFault, value: &Value) -> Result<&str, CallFault>
     }
 }
 
-/// The identifier: one of two members has it, as text or as base64. Without both it is the digits of
-/// what was drawn.
+/// The identifier: one of two members has it, as text or as base64. Without both it is the digits
+/// of what was drawn.
 pub(crate) fn identifier_in(
     alloc: Global,
     drawn: &[u8; 16],

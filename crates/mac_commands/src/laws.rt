@@ -26,11 +26,11 @@ pub fn statuses_and_the_bound_are_numbers()
     ensures input { INPUT_MAX ≡ 16777216 }
 {}
 
-/// What `clap` makes of a command line with no other subcommand than `pipe`, and no `--revoked` right
-/// behind its name, is what the plain words say: it is taken where the words after the program's
-/// name are `pipe`, or `pipe` and `--`; it asks for help where the first of them, or the one after
-/// `pipe`, is `--help` or begins with `-h`, and for the version where the first is `--version` or
-/// begins with `-V`; each other is refused.
+/// What `clap` makes of a command line with no other subcommand than `pipe`, and no `--revoked`
+/// right behind its name, is what the plain words say: it is taken where the words after the
+/// program's name are `pipe`, or `pipe` and `--`; it asks for help where the first of them, or the
+/// one after `pipe`, is `--help` or begins with `-h`, and for the version where the first is
+/// `--version` or begins with `-V`; each other is refused.
 #[tactic(auto, using(crate::proofs::PlainWords::plain_status))]
 pub fn command_line_in_plain_words()
     ensures { (words : List (List ℕ)) → All IsUtf8 words → names_another (drop 1 words) ≡ false

@@ -17,7 +17,8 @@ use std::alloc::{AllocError, Global};
 /// Why options that `clap` takes give no choice.
 #[derive(Clone, Copy)]
 pub enum OptionFault {
-    /// `--mode`, `--verify-mode`, `--http-mode` or `--http-calls-mode` has digits that name no mode.
+    /// `--mode`, `--verify-mode`, `--http-mode` or `--http-calls-mode` has digits that name no
+    /// mode.
     UnknownMode,
     /// Memory ran out.
     NoMemory,

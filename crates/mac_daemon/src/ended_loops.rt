@@ -7,9 +7,9 @@ ghost use Rattle.mac_loop.specs.Gone.{count_gone};
 use mac_loop::{EndedLoop, Outcomes};
 use mac_mail::History;
 
-/// What became of the connections that loops were given which have ended: each loop handed on, ended
-/// or turned away as many as it was given, and so did all together. Contracts alone see which: the
-/// list takes no room.
+/// What became of the connections that loops were given which have ended: each loop handed on,
+/// ended or turned away as many as it was given, and so did all together. Contracts alone see
+/// which: the list takes no room.
 #[derive(Drop)]
 pub(crate) struct EndedLoops {
     outcomes: History<Outcomes>,

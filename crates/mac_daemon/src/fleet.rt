@@ -93,8 +93,8 @@ pub struct Idlers {
 }
 
 impl Idlers {
-    /// As many loops as a daemon of this shape has, which share a memory of tokens, and the budget of
-    /// what their clients hold.
+    /// As many loops as a daemon of this shape has, which share a memory of tokens, and the budget
+    /// of what their clients hold.
     pub fn make<R: Net + Wait>(
         rt: &R,
         alloc: Global,
@@ -179,7 +179,8 @@ impl Promise<EndedLoop> for SameDesk {
 type LoopThread = PromisedHandle<EndedLoop, SameDesk>;
 
 /// Starts the workers and the loops, serves the connections that come in, so many where a count is
-/// given, and ends the threads once all connections have ended. The day has the books of the workers.
+/// given, and ends the threads once all connections have ended. The day has the books of the
+/// workers.
 pub fn run_fleet<R>(
     rt: &R,
     alloc: Global,
@@ -219,8 +220,8 @@ where
 }
 
 /// Runs these loops, each in a thread at a desk of the pool, while connections come in. Each desk
-/// goes home, whether there is a thread for each loop or not. What became of the connections of each
-/// loop is told with the day.
+/// goes home, whether there is a thread for each loop or not. What became of the connections of
+/// each loop is told with the day.
 fn run_loops<R>(
     rt: &R,
     alloc: Global,

@@ -1,8 +1,8 @@
 //! The daemon: the connections of a Unix socket, from the first byte of each to its last.
 //!
-//! One thread accepts them ([`listen`]) and hands each to a loop of `mac_loop`, which answers what it
-//! reads. What is too dear for that the loop puts into the workers' line from a desk of its own, and
-//! the connection waits in its slot for the answer.
+//! One thread accepts them ([`listen`]) and hands each to a loop of `mac_loop`, which answers what
+//! it reads. What is too dear for that the loop puts into the workers' line from a desk of its own,
+//! and the connection waits in its slot for the answer.
 #![tactic(auto)]
 
 mod accepting;

@@ -229,8 +229,8 @@ fn socket_paths(alloc: Global, terms: DaemonTerms<'_>) -> Result<Vec<String>, Al
     Ok(paths)
 }
 
-/// Starts the thread that serves the connections that come in, to their ends: so many, where so many
-/// are asked for.
+/// Starts the thread that serves the connections that come in, to their ends: so many, where so
+/// many are asked for.
 fn start_serving<R>(
     rt: R,
     alloc: Global,

@@ -1,5 +1,5 @@
-//! What the threads of a daemon tell one another of its connections: how many there are, and what is
-//! printed.
+//! What the threads of a daemon tell one another of its connections: how many there are, and what
+//! is printed.
 
 ghost use Rattle.std.specs.Prelude.{◌≡◌};
 

@@ -1,6 +1,7 @@
 -- How connections go on, and stay in their slots.
 use Rattle.std.proofs.Common.{◌≡◌, ◌≢◌, ℕ, zero, suc, true, false, ◌||◌, nat_lt, cond, List, [], ◌∷◌, ◌++◌, Option, None, Some, Result, Ok, Err, OnOk, IsOk, ◌↔◌, inl, inr, refl, sym, ap, subst, ◌∙◌, append-nil, append_assoc, slice_index_or, slice_set}
 use Rattle.std.specs.Prelude.{IfNone, IfSome, option_map}
+use Rattle.std.proofs.Math.Logic.{∥∥₁_map}
 use Rattle.std.proofs.lemmas.Bool.Decides.{eqb_tells}
 use Rattle.std.proofs.lemmas.List.{get_or-set_other}
 use Rattle.http_server.specs.Connection.{history}
@@ -8,9 +9,11 @@ use Rattle.http_server.specs.Exchange.{Call}
 use Rattle.http_server.specs.declared.connection.Connection.{Connection}
 use Rattle.mac_slots.specs.Slots.{Slot, Slots, Free, Lent, Held, at, held, is_free, times, with_held, with_listed, Becomes}
 use Rattle.mac_gate.specs.declared.connection.HttpConnection.{HttpConnection}
-use Rattle.mac_gate.specs.Going.{Begins, GoesOn, IsKept, KeepTheirs, Past, StayInPlace, past_at, past_of}
+use Rattle.mac_sockets.specs.Connections.{IsStillAlike, StayAlike}
+use Rattle.mac_gate.specs.Going.{AreOffered, Begins, GoesOn, IsKept, KeepTheirs, Past, StayInPlace, TakesIn, past_at, past_of}
 use Rattle.mac_gate.specs.Lives.{Adds, IsTurnBy}
 use Rattle.mac_gate.specs.declared.flow.Flow.{Flow}
+use Rattle.mac_gate.specs.declared.offer.Offer.{Offer}
 
 module _ {X : Type 0} where
   begins-same : (xs : List X) → Begins xs xs
@@ -179,3 +182,71 @@ stay-gone old mid new slot ready lent none others =
 pub untaken : (old new : Slots HttpConnection) (taken : Option HttpConnection) → taken ≡ None → IfNone taken (new ≡ old) → new ≡ old
 untaken old new None is same = same
 untaken old new (Some one) is same = absurd cc
+
+-- slots that change in which are ready alone
+pub keep-ready : (old new : Slots HttpConnection) (ready : List ℕ) → new ≡ record old { ready = ready } → KeepTheirs old new
+keep-ready old new ready same slot = ap (λ (s : Slots HttpConnection). past_at s slot) same
+
+-- connections that are told of events
+still_keeps : (old new : Option HttpConnection) → IsStillAlike (λ (one other : HttpConnection). past_of other ≡ past_of one) old new → option_map past_of new ≡ option_map past_of old
+still_keeps None None still = refl
+still_keeps None (Some new) still = absurd still
+still_keeps (Some old) None still = absurd still
+still_keeps (Some old) (Some new) still = ap (λ (p : Past). Some p) (still old refl)
+
+pub keep-alike : (old new : Slots HttpConnection) → StayAlike (λ (one other : HttpConnection). past_of other ≡ past_of one) old new → KeepTheirs old new
+keep-alike old new alike slot = still_keeps (held (at old slot)) (held (at new slot)) (alike slot)
+
+-- a step that keeps what each has, behind one that leaves each in its place
+pub stay-kept : (a b c : Slots HttpConnection) → StayInPlace a b → KeepTheirs b c → StayInPlace a c
+stay-kept a b c one two = stay-then a b c one (stay-keep b c two)
+
+-- nobody comes in
+pub takes-none : (one : Past) (old new : Slots HttpConnection) → new ≡ old → TakesIn one old new
+takes-none one old new same slot = inl (ap (λ (s : Slots HttpConnection). past_at s slot) same)
+
+-- a slot is had, and left again
+pub takes-left : (one : Past) (old mid new : Slots HttpConnection) (slot : ℕ) (ready rest : List ℕ) → at old slot ≡ Free → Becomes old mid slot Lent ready → Becomes mid new slot Free rest → TakesIn one old new
+takes-left one old mid new slot ready rest free had left other = elim (eqb_tells other slot) [
+  | inl same ↦ inl (subst (λ (k : ℕ). past_at new k ≡ past_at old k) (sym same.1) (ap (λ (s : Slot HttpConnection). option_map past_of (held s)) (left.this ∙ sym free)))
+  | inr apart ↦ inl (ap (λ (s : Slot HttpConnection). option_map past_of (held s)) (left.others other apart.1 ∙ had.others other apart.1))
+]
+
+-- one comes into a slot that nobody was in
+pub takes-in : (one : HttpConnection) (old mid put new : Slots HttpConnection) (slot : ℕ) (ready rest : List ℕ) → at old slot ≡ Free → Becomes old mid slot Lent ready → Becomes mid put slot (Held one) rest
+    → KeepTheirs put new → TakesIn (past_of one) old new
+takes-in one old mid put new slot ready rest free had is keeps other = elim (eqb_tells other slot) [
+  | inl same ↦ inr (
+    ap (λ (s : Slot HttpConnection). option_map past_of (held s)) (ap (λ (k : ℕ). at old k) same.1 ∙ free),
+    keeps other ∙ ap (λ (s : Slot HttpConnection). option_map past_of (held s)) (ap (λ (k : ℕ). at put k) same.1 ∙ is.this),
+  )
+  | inr apart ↦ inl (keeps other ∙ ap (λ (s : Slot HttpConnection). option_map past_of (held s)) (is.others other apart.1 ∙ had.others other apart.1))
+]
+
+offered_kept : (offer : Offer) (old new : Option Past) → IsKept old new → IfSome old (λ past. past.offer ≡ offer) → IfSome new (λ past. past.offer ≡ offer)
+offered_kept offer old None kept is = tt
+offered_kept offer None (Some new) kept is = absurd kept
+offered_kept offer (Some old) (Some new) kept is = kept.offer ∙ is
+
+offered_stay : (offer : Offer) (old new : Slots HttpConnection) → StayInPlace old new → AreOffered offer old → AreOffered offer new
+offered_stay offer old new stays are slot = offered_kept offer (past_at old slot) (past_at new slot) (stays slot) (are slot)
+
+offered_in : (offer : Offer) (one : Past) (old new : Slots HttpConnection) → one.offer ≡ offer → TakesIn one old new → AreOffered offer old → AreOffered offer new
+offered_in offer one old new is takes are slot = elim (takes slot) [
+  | inl same ↦ subst (λ (p : Option Past). IfSome p (λ past. past.offer ≡ offer)) (sym same) (are slot)
+  | inr came ↦ subst (λ (p : Option Past). IfSome p (λ past. past.offer ≡ offer)) (sym came.1) is
+]
+
+-- who stays is offered what was offered
+pub offers-stay : (offer : Offer) (old new : Slots HttpConnection) → StayInPlace old new → ∥ AreOffered offer old ∥₁ → ∥ AreOffered offer new ∥₁
+offers-stay offer old new stays are = ∥∥₁_map are (offered_stay offer old new stays)
+
+pub offers-keep : (offer : Offer) (old new : Slots HttpConnection) → KeepTheirs old new → ∥ AreOffered offer old ∥₁ → ∥ AreOffered offer new ∥₁
+offers-keep offer old new keeps = offers-stay offer old new (stay-keep old new keeps)
+
+pub offers-same : (offer : Offer) (old new : Slots HttpConnection) → new ≡ old → ∥ AreOffered offer old ∥₁ → ∥ AreOffered offer new ∥₁
+offers-same offer old new same are = subst (λ (s : Slots HttpConnection). ∥ AreOffered offer s ∥₁) (sym same) are
+
+-- one comes in that is offered the same
+pub offers-in : (offer : Offer) (one : Past) (old new : Slots HttpConnection) → one.offer ≡ offer → TakesIn one old new → ∥ AreOffered offer old ∥₁ → ∥ AreOffered offer new ∥₁
+offers-in offer one old new is takes are = ∥∥₁_map are (offered_in offer one old new is takes)

@@ -1,5 +1,5 @@
 -- How a connection over HTTP goes on from turn to turn (this project's own).
-use Rattle.std.specs.Prelude.{◌≡◌, ℕ, List, ◌++◌, Option, Some, None, option_map}
+use Rattle.std.specs.Prelude.{◌≡◌, ◌⊎◌, ℕ, IfSome, List, ◌++◌, Option, Some, None, option_map}
 use Rattle.http_server.specs.Connection.{history}
 use Rattle.http_server.specs.Exchange.{Call}
 use Rattle.mac_slots.specs.Slots.{Slots, at, held}
@@ -67,3 +67,12 @@ KeepTheirs old new = (slot : ℕ) → past_at new slot ≡ past_at old slot
 -- each connection that is in a slot was in that slot, and goes on from what it had
 abbrev pub StayInPlace : Slots HttpConnection → Slots HttpConnection → Type 0
 StayInPlace old new = (slot : ℕ) → IsKept (past_at old slot) (past_at new slot)
+
+-- each connection that is in a slot is offered this
+abbrev pub AreOffered : Offer → Slots HttpConnection → Type 0
+AreOffered offer slots = (slot : ℕ) → IfSome (past_at slots slot) (λ past. past.offer ≡ offer)
+
+-- this one came into a slot that nobody was in, or into none; the others keep what they had
+abbrev pub TakesIn : Past → Slots HttpConnection → Slots HttpConnection → Type 0
+TakesIn one old new = (slot : ℕ) → (past_at new slot ≡ past_at old slot)
+    ⊎ ((past_at old slot ≡ None) × (past_at new slot ≡ Some one))

@@ -13,3 +13,4 @@ pub mod Going
 pub mod Answered
 pub mod Numbers
 pub mod Pages
+pub mod Offered

@@ -10,7 +10,7 @@ use crate::devices::Spoken;
 use crate::draws::SystemDraws;
 use crate::offer::{AddressTerms, Offer};
 use crate::shared::Shared;
-use http_server::Connection;
+use http_server::{Connection, Log};
 use mac_board::Follower;
 use mac_http::{Face, Way, take_turn};
 use mac_page::{PageFace, Site};
@@ -78,6 +78,7 @@ impl<'a, R: Wait + Clock + RandomSource> Answering<'a, R> {
             server: self.server,
             version: own.terms.version,
             since: self.since,
+            noted: Log::new(),
         };
         let rules = own.terms.rules(&own.rights, way);
         let moments = SystemMoments::new(self.rt);

@@ -61,6 +61,7 @@ impl HttpConnection {
     ) -> HttpConnection
         requires fresh { history connection.value ≡ new_history }
         requires config { config_of connection.value ≡ CONFIG }
+        ensures { result.offer.value ≡ offer.value }
     {
         let (stream, flow) = Flow::begin(alloc, stream);
         HttpConnection {
@@ -160,7 +161,9 @@ impl HttpConnection {
     }
 
     /// The look comes that was noted.
-    pub fn take_up(&mut self) {
+    pub fn take_up(&mut self)
+        ensures { past_of self.new ≡ past_of self.old }
+    {
         self.note.is_put_off = false;
     }
 
@@ -268,6 +271,10 @@ impl Holds for HttpConnection {
 }
 
 impl Wakes for HttpConnection {
+    ghost use Rattle.mac_gate.specs.Going.{past_of};
+
+    ghost alike = { λ one other. past_of other ≡ past_of one };
+
     fn wake(&mut self, told: Readiness) -> bool {
         self.note.has_more = self.note.has_more || told.reads || told.closes;
         self.note.has_room = self.note.has_room || told.writes;

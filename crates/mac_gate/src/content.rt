@@ -1,28 +1,27 @@
 //! What the connections of a server are answered by: faces of a daemon, or a site.
 
-use crate::answering::Answering;
-use crate::looping::HttpLoop;
+ghost use Rattle.std.specs.Prelude.{◌≡◌, [], ◌∷◌, IfOk, replicate};
+
 use crate::offer::{AddressTerms, Offer};
-use crate::shared::Shared;
 use crate::terms::HttpTerms;
 use mac_board::{Follower, Followers};
 use mac_decide::Rights;
 use mac_page::Site;
 use std::alloc::{AllocError, Global};
-use std::random::RandomSource;
-use std::sync::{Arc, Wait};
-use std::time::Clock;
+use std::sync::Arc;
 
 /// What answers the connections of a loop.
 #[derive(Drop)]
 pub struct Content {
     // What is offered to them.
-    offer: Arc<Offer, Global>,
+    pub(crate) offer: Arc<Offer, Global>,
     // Follows the key tables, where that is a daemon's.
-    keys: Option<Follower>,
+    pub(crate) keys: Option<Follower>,
 }
 
 impl Content {
+    ghost use Rattle.mac_gate.specs.Offered.{offers_of};
+
     /// Faces of a daemon for so many loops, under the tables that are followed.
     pub fn faces(
         alloc: Global,
@@ -30,7 +29,10 @@ impl Content {
         rights: Rights,
         loops: usize,
         terms: HttpTerms,
-    ) -> Result<Vec<Content>, AllocError> {
+    ) -> Result<Vec<Content>, AllocError>
+        ensures { IfOk result (λ made. offers_of made.items
+            ≡ replicate loops (Offer.Daemon (record { terms = terms; rights = rights }))) }
+    {
         let offer = Arc::new(alloc, Offer::Daemon(AddressTerms { terms, rights }))?;
         let mut contents = Vec::with_capacity(alloc, loops)?;
         for _ in 0..loops {
@@ -43,31 +45,14 @@ impl Content {
     }
 
     /// A site, for one loop.
-    pub fn site(alloc: Global, site: Site) -> Result<Vec<Content>, AllocError> {
+    pub fn site(alloc: Global, site: Site) -> Result<Vec<Content>, AllocError>
+        ensures { IfOk result (λ made. offers_of made.items ≡ Offer.Site site ∷ []) }
+    {
         let mut contents = Vec::with_capacity(alloc, 1)?;
         contents.push(Content {
             offer: Arc::new(alloc, Offer::Site(site))?,
             keys: None,
         })?;
         Ok(contents)
-    }
-
-    /// Serves the connections of a loop to the end of the last one.
-    pub fn serve<R: Wait + Clock + RandomSource>(
-        self,
-        rt: &R,
-        alloc: Global,
-        server: &Shared,
-        own: &mut HttpLoop,
-    ) {
-        let Content { offer, keys } = self;
-        let mut answering = Answering {
-            since: 0,
-            rt,
-            alloc,
-            server,
-            keys,
-        };
-        own.run(rt, &offer, &mut answering);
     }
 }

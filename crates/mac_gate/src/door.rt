@@ -53,7 +53,8 @@ impl From<io::Error> for DoorFault {
     }
 }
 
-/// Opens a door at an address. A Unix socket has these permissions, and is among those that are held.
+/// Opens a door at an address. A Unix socket has these permissions, and is among those that are
+/// held.
 pub fn open_door<R>(
     rt: &R,
     doors: &mut Doors<()>,

@@ -38,7 +38,8 @@ impl Gathered {
         self.pace = Pace::new();
     }
 
-    /// In how many microseconds it is seen whether what is gathered is looked at, where something is.
+    /// In how many microseconds it is seen whether what is gathered is looked at, where something
+    /// is.
     pub fn due_in(&self) -> Option<u64> {
         if self.bytes.is_empty() {
             None

@@ -22,8 +22,8 @@ pub(crate) fn append_told_keys(
     }
 }
 
-/// Appends a line for each name of a table, in the order of their bytes, with the fingerprints of its
-/// keys.
+/// Appends a line for each name of a table, in the order of their bytes, with the fingerprints of
+/// its keys.
 fn append_key_lines(alloc: Global, table: &KeyTable, out: &mut Vec<u8>) -> Result<(), AllocError>
     ensures { OnOk result (out.new.items ≡ out.old.items ++ key_lines table.now) }
 {

@@ -36,8 +36,8 @@ pub fn lives_are_told()
         → IsDone (history connection) → SaidAll offer by flow.came.bytes flow.went.bytes }
 {}
 
-/// Over the turns of one loop, whosever they are, no request is answered under an older table than a
-/// request of an earlier turn, or one before it in the same turn.
+/// Over the turns of one loop, whosever they are, no request is answered under an older table than
+/// a request of an earlier turn, or one before it in the same turn.
 pub fn turns_keep_their_tables()
     ensures { (was is : Known) (turns : List Turn) → AreTurns (Some was) (Some is) turns
         → KeepOrder was is turns }

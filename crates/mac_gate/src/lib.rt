@@ -1,10 +1,10 @@
 //! The server of sockets over HTTP: where gateways, programs, operators and the page's browser
 //! connect, and loops that answer them.
 //!
-//! [`read_addresses`] reads what people write, [`open_door`] opens a door there, and [`start_server`]
-//! starts the thread that accepts, and a loop for each [`Content`]. A loop is a thread that waits for many
-//! connections: each that is ready takes a turn of `mac_http`, over its stream, which never waits. An
-//! [`HttpServer`] is told to end, and waited for.
+//! [`read_addresses`] reads what people write, [`open_door`] opens a door there, and
+//! [`start_server`] starts the thread that accepts, and a loop for each [`Content`]. A loop is a
+//! thread that waits for many connections: each that is ready takes a turn of `mac_http`, over its
+//! stream, which never waits. An [`HttpServer`] is told to end, and waited for.
 #![tactic(auto)]
 
 mod accepting;

@@ -1,7 +1,8 @@
 //! A loop: a thread's turns over its connections.
 
+ghost use Rattle.std.specs.Prelude.{◌≡◌, IfOk, IfSome};
 ghost use Rattle.mac_gate.specs.Answered.{GoesByTurns, known_to};
-ghost use Rattle.mac_gate.specs.Going.{StayInPlace};
+ghost use Rattle.mac_gate.specs.Going.{AreOffered, StayInPlace};
 
 use crate::answering::Answering;
 use crate::connection::{HttpConnection, PIECE};
@@ -10,6 +11,7 @@ use crate::offer::Offer;
 use crate::shared::{Newcomer, Shared};
 use crate::waiting::Waiting;
 use http_server::Connection;
+use mac_board::Follower;
 use mac_host::{microseconds, microseconds_of};
 use mac_http::CONFIG;
 use mac_sockets::{Fresh, STACK, SharedBudget};
@@ -19,75 +21,114 @@ use std::hash::RandomState;
 use std::io;
 use std::net::Net;
 use std::random::RandomSource;
+use std::snapshot::Snapshot;
 use std::sync::{Arc, Wait};
-use std::thread::{Builder, Threads};
+use std::thread::{Builder, Promise, PromisedHandle, Threads};
 use std::time::{Clock, Duration};
 
-/// A loop that has no thread yet.
+/// A loop with its connections: the same is offered to each of them.
 #[derive(Drop)]
 pub struct HttpLoop {
     number: usize,
+    offer: Arc<Offer, Global>,
+    // Follows the key tables, where a daemon answers, until the loop is served.
+    keys: Option<Follower>,
     connections: Waiting,
     // What comes is read into this.
     piece: Vec<u8>,
+    ghost offered: { ∥ AreOffered offer.value connections.connections.slots ∥₁ },
 }
 
+/// What the loop of a thread offers, from its begin to its end.
+#[derive(Drop)]
+pub struct Offering {
+    pub offer: Snapshot<Offer>,
+}
+
+impl Promise<Snapshot<HttpLoop>> for Offering {
+    ghost kept_by = { λ p end. end.value.offer.value ≡ p.offer.value };
+}
+
+/// The thread of a loop.
+pub type Looping = PromisedHandle<Snapshot<HttpLoop>, Offering>;
+
 impl HttpLoop {
-    /// A loop of this number, whose connections' peers may each take so long and hold memory within
-    /// this budget, with what ends its waits.
+    /// A loop of this number that offers this, whose connections' peers may each take so long and
+    /// hold memory within this budget, with what ends its waits.
     pub fn new<R: Net + Wait>(
         rt: &R,
         alloc: Global,
         number: usize,
+        content: Content,
         patience: Duration,
         budget: &Arc<SharedBudget, Global>,
-    ) -> io::Result<(HttpLoop, Waker)> {
+    ) -> io::Result<(HttpLoop, Waker)>
+        ensures { IfOk result (λ made. made.0.offer.value ≡ content.offer.value) }
+    {
+        let Content { offer, keys } = content;
         let (connections, waker) = Waiting::new(rt, alloc, microseconds_of(patience), budget)?;
         let mut piece = Vec::new(alloc);
         piece.resize(PIECE, 0)?;
         let own = HttpLoop {
             number,
+            offer,
+            keys,
             connections,
             piece,
         };
         Ok((own, waker))
     }
 
-    /// Starts a thread that serves the loop's connections, which this answers, until the server is
-    /// closed and the last one has gone. Whether there is such a thread.
-    pub fn start<R>(
-        self,
-        rt: R,
-        alloc: Global,
-        server: Arc<Shared, Global>,
-        content: Content,
-    ) -> bool
+    /// Starts a thread that serves the loop's connections, until the server is closed and the last
+    /// one has gone; if there is such a thread.
+    pub fn start<R>(self, rt: R, alloc: Global, server: Arc<Shared, Global>) -> Option<Looping>
     where
         R: Threads + Wait + Clock + RandomSource + Sync + Copy + Send + 'static,
+        ensures { IfSome result (λ looping. looping.promise.offer.value ≡ self.offer.value) }
     {
-        let work = move || {
-            let mut own = self;
-            content.serve(&rt, alloc, &server, &mut own);
+        let offering = Offering {
+            offer: Snapshot::of(&*self.offer),
         };
-        Builder::new().stack_size(STACK).spawn(&rt, work).is_ok()
+        let work = move || -> Snapshot<HttpLoop>
+            ensures { result.value.offer.value ≡ self.offer.value }
+        {
+            let mut own = self;
+            own.serve(&rt, alloc, &server);
+            Snapshot::of(&own)
+        };
+        Builder::new()
+            .stack_size(STACK)
+            .spawn_with(&rt, offering, work)
+            .ok()
+    }
+
+    /// Serves the loop's connections to the end of the last one.
+    fn serve<R: Wait + Clock + RandomSource>(&mut self, rt: &R, alloc: Global, server: &Shared)
+        ensures { self.new.offer ≡ self.old.offer }
+    {
+        let keys = self.keys.take();
+        let mut answering = Answering {
+            since: 0,
+            rt,
+            alloc,
+            server,
+            keys,
+        };
+        self.run(rt, &mut answering);
     }
 
     /// Serves the loop's connections, which this answers by what is offered to them, to the end of
     /// the last one.
-    pub fn run<R: Wait + Clock + RandomSource>(
-        &mut self,
-        rt: &R,
-        offer: &Arc<Offer, Global>,
-        answering: &mut Answering<'_, R>,
-    )
-        ensures { GoesByTurns (known_to answering.old.keys) (known_to answering.new.keys) }
+    fn run<R: Wait + Clock + RandomSource>(&mut self, rt: &R, answering: &mut Answering<'_, R>)
+        ensures offer { self.new.offer ≡ self.old.offer }
+        ensures turns { GoesByTurns (known_to answering.old.keys) (known_to answering.new.keys) }
     {
         let (alloc, server) = (answering.alloc, answering.server);
         for _ in rt.forever() {
             self.connections.wait(rt);
             // Behind the last arrival the server is closed.
             let is_closed = server.is_closed();
-            self.take_in_all(rt, alloc, server, offer);
+            self.take_in_all(rt, alloc, server);
             self.advance_ready(rt, server, answering);
             self.sweep(rt, server);
             self.settle(rt, server);
@@ -104,14 +145,15 @@ impl HttpLoop {
         rt: &R,
         alloc: Global,
         server: &Shared,
-        offer: &Arc<Offer, Global>,
-    ) {
+    )
+        ensures { self.new.offer ≡ self.old.offer }
+    {
         let mut has_come = false;
         for _ in rt.forever() {
             let Some(newcomer) = server.take(rt, self.number) else {
                 break;
             };
-            self.receive(rt, alloc, server, offer, newcomer);
+            self.receive(rt, alloc, server, newcomer);
             has_come = true;
         }
         if has_come {
@@ -126,27 +168,27 @@ impl HttpLoop {
         rt: &R,
         alloc: Global,
         server: &Shared,
-        offer: &Arc<Offer, Global>,
         newcomer: Newcomer,
-    ) {
+    )
+        ensures { self.new.offer ≡ self.old.offer }
+    {
         let Newcomer { stream, displaces } = newcomer;
         if displaces && !self.connections.drop_stalest() {
             return;
         }
-        if !self.takes_in(rt, alloc, stream, offer) {
+        if !self.takes_in(rt, alloc, stream) {
             server.leave(rt, self.number);
         }
     }
 
     /// Takes a connection in. Whether that could be.
-    fn takes_in<R: Clock + RandomSource>(
-        &mut self,
-        rt: &R,
-        alloc: Global,
-        stream: Fresh,
-        offer: &Arc<Offer, Global>,
-    ) -> bool {
-        let (Ok(secrets), Ok(offer)) = (RandomState::new(rt), Arc::try_clone(offer)) else {
+    fn takes_in<R: Clock + RandomSource>(&mut self, rt: &R, alloc: Global, stream: Fresh) -> bool
+        ensures { self.new.offer ≡ self.old.offer }
+    {
+        let Ok(offer) = Arc::try_clone(&self.offer) else {
+            return false;
+        };
+        let Ok(secrets) = RandomState::new(rt) else {
             return false;
         };
         let Ok(connection) = Box::new(alloc, Connection::new(alloc, secrets, CONFIG)) else {
@@ -164,7 +206,8 @@ impl HttpLoop {
         server: &Shared,
         answering: &mut Answering<'_, R>,
     )
-        ensures { GoesByTurns (known_to answering.old.keys) (known_to answering.new.keys) }
+        ensures offer { self.new.offer ≡ self.old.offer }
+        ensures turns { GoesByTurns (known_to answering.old.keys) (known_to answering.new.keys) }
     {
         if server.is_ending() {
             self.connections.end_idle();
@@ -186,7 +229,8 @@ impl HttpLoop {
         answering: &mut Answering<'_, R>,
         is_ready: bool,
     )
-        ensures { GoesByTurns (known_to answering.old.keys) (known_to answering.new.keys) }
+        ensures offer { self.new.offer ≡ self.old.offer }
+        ensures turns { GoesByTurns (known_to answering.old.keys) (known_to answering.new.keys) }
     {
         let next = if is_ready {
             self.connections.next_ready()
@@ -202,7 +246,9 @@ impl HttpLoop {
     /// Gives back what turns haven't taken, and what those had who have left. Where some loop lacks
     /// more than connections leave, those here that hold most are let go, as long as they hold
     /// much; else a loop that lacks memory waits for others.
-    fn settle<R: Wait + Clock>(&mut self, rt: &R, server: &Shared) {
+    fn settle<R: Wait + Clock>(&mut self, rt: &R, server: &Shared)
+        ensures { self.new.offer ≡ self.old.offer }
+    {
         self.connections.settle(rt);
         let mut has_ended = false;
         for _ in rt.forever() {
@@ -226,6 +272,7 @@ impl HttpLoop {
         answering: &mut Answering<'_, R>,
         slot: usize,
     )
+        ensures offer { self.new.offer ≡ self.old.offer }
         ensures stay { StayInPlace self.old.connections.connections.slots
             self.new.connections.connections.slots }
         ensures turns { GoesByTurns (known_to answering.old.keys) (known_to answering.new.keys) }
@@ -240,7 +287,9 @@ impl HttpLoop {
 
     /// Looks at all connections, where it is time for that, and lets those go whose peers have
     /// taken too long.
-    fn sweep<R: Wait>(&mut self, rt: &R, server: &Shared) {
+    fn sweep<R: Wait>(&mut self, rt: &R, server: &Shared)
+        ensures { self.new.offer ≡ self.old.offer }
+    {
         if !self.connections.begins_look() {
             return;
         }

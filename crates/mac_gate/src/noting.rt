@@ -56,8 +56,8 @@ fn told_of_call(reason: Option<Reason>, status: StatusCode) -> Told
     }
 }
 
-/// What is logged of a request. Where identifiers are logged, a token whose signature is right is read
-/// once more.
+/// What is logged of a request. Where identifiers are logged, a token whose signature is right is
+/// read once more.
 pub fn exchange_of(
     alloc: Global,
     tells_identifiers: bool,

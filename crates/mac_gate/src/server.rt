@@ -1,8 +1,12 @@
 //! The server of sockets over HTTP: its assembly, and its end.
 
-use crate::accepting::start_accepting;
+ghost use Rattle.std.specs.Prelude.{◌≡◌, IfOk, IfSome, map};
+ghost use Rattle.mac_gate.specs.Offered.{let_in_by, offered_by, offers_of};
+ghost use Rattle.mac_sockets.specs.Entrance.{opened};
+
+use crate::accepting::{Accepting, start_accepting};
 use crate::content::Content;
-use crate::looping::HttpLoop;
+use crate::looping::{HttpLoop, Looping};
 use crate::shared::Shared;
 use crate::terms::Bounds;
 use mac_host::Host;
@@ -13,7 +17,7 @@ use std::io;
 use std::net::Net;
 use std::random::RandomSource;
 use std::sync::{Arc, Wait};
-use std::thread::{JoinHandle, Threads};
+use std::thread::Threads;
 use std::time::Clock;
 use thiserror::Error;
 
@@ -62,7 +66,8 @@ impl From<WaitFault> for ServerFault {
 #[derive(Drop)]
 pub struct HttpServer {
     server: Arc<Shared, Global>,
-    acceptor: JoinHandle<()>,
+    acceptor: Accepting,
+    loops: Vec<Looping>,
 }
 
 impl HttpServer {
@@ -74,7 +79,7 @@ impl HttpServer {
 
     /// Waits until it takes no further connection.
     pub fn await_end<R: Threads>(self, rt: &R) {
-        self.acceptor.join(rt);
+        let _shut = self.acceptor.join(rt);
     }
 }
 
@@ -90,6 +95,8 @@ pub fn start_server<R>(
 where
     R: Alloc<A = Global> + Net + Threads + Wait + Clock + RandomSource,
     R: Sync + Copy + Send + 'static,
+    ensures doors { IfOk result (λ server. let_in_by server ≡ opened doors) }
+    ensures offers { IfOk result (λ server. offered_by server ≡ offers_of contents.items) }
 {
     let alloc = rt.alloc();
     let entrance = Entrance::open(rt, alloc, doors)?;
@@ -98,7 +105,11 @@ where
     let server = Shared::new(alloc, bounds, host, shutter, wakers)?;
     server.open(rt)?;
     match start_all(rt, made, entrance, &server) {
-        Some(acceptor) => Ok(HttpServer { server, acceptor }),
+        Some((loops, acceptor)) => Ok(HttpServer {
+            server,
+            acceptor,
+            loops,
+        }),
         None => {
             server.close(rt);
             Err(ServerFault::NoThread)
@@ -106,18 +117,22 @@ where
     }
 }
 
-/// A loop for each of these contents, with what it answers by, and what ends the waits of each.
+/// A loop for each of these contents, in their order, and what ends the waits of each.
 fn make_loops<R: Net + Wait>(
     rt: &R,
     alloc: Global,
     contents: Vec<Content>,
     bounds: Bounds,
     budget: &Arc<SharedBudget, Global>,
-) -> Result<(Vec<(HttpLoop, Content)>, Vec<Waker>), ServerFault> {
+) -> Result<(Vec<HttpLoop>, Vec<Waker>), ServerFault>
+    ensures { IfOk result (λ made. map (λ one. one.offer.value) made.0.items
+        ≡ offers_of contents.items) }
+{
     let (mut made, mut wakers) = (Vec::new(alloc), Vec::new(alloc));
-    for (number, content) in contents.into_iter().enumerate() {
-        let (own, waker) = HttpLoop::new(rt, alloc, number, bounds.patience, budget)?;
-        made.push((own, content))?;
+    for content in contents {
+        let number = made.len();
+        let (one, waker) = HttpLoop::new(rt, alloc, number, content, bounds.patience, budget)?;
+        made.push(one)?;
         wakers.push(waker)?;
     }
     Ok((made, wakers))
@@ -126,18 +141,21 @@ fn make_loops<R: Net + Wait>(
 /// Starts the loops of a server, and the thread that accepts, if there is each of them.
 fn start_all<R>(
     rt: &R,
-    loops: Vec<(HttpLoop, Content)>,
+    made: Vec<HttpLoop>,
     entrance: Entrance<()>,
     server: &Arc<Shared, Global>,
-) -> Option<JoinHandle<()>>
+) -> Option<(Vec<Looping>, Accepting)>
 where
     R: Alloc<A = Global> + Threads + Wait + Clock + RandomSource + Sync + Copy + Send + 'static,
+    ensures loops { IfSome result (λ started. map (λ looping. looping.promise.offer.value)
+        started.0.items ≡ map (λ one. one.offer.value) made.items) }
+    ensures acceptor { IfSome result (λ started. started.1.promise.entrance.value ≡ entrance) }
 {
-    for (own, content) in loops {
+    let mut loops = Vec::new(rt.alloc());
+    for one in made {
         let server = Arc::try_clone(server).ok()?;
-        if !own.start(*rt, rt.alloc(), server, content) {
-            return None;
-        }
+        loops.push(one.start(*rt, rt.alloc(), server)?).ok()?;
     }
-    start_accepting(*rt, entrance, Arc::try_clone(server).ok()?)
+    let acceptor = start_accepting(*rt, entrance, Arc::try_clone(server).ok()?)?;
+    Some((loops, acceptor))
 }

@@ -29,8 +29,8 @@ struct LoopSide {
     inbox: Inbox<Newcomer>,
     // How many connections the loop has.
     count: AtomicUsize,
-    // When something was sent to the one of them that was sent nothing for longest, in microseconds,
-    // as far as the loop looked.
+    // When something was sent to the one of them that was sent nothing for longest, in
+    // microseconds, as far as the loop looked.
     stalest: AtomicU64,
 }
 

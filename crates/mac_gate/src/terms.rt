@@ -32,8 +32,8 @@ pub struct Bounds {
     pub connections: usize,
     /// How long a peer may bring no whole request, and a write may wait.
     pub patience: Duration,
-    /// Whether one gives way to a further one: that to which nothing was sent for longest, as far as
-    /// the loops looked. Else the further one is closed.
+    /// Whether one gives way to a further one: that to which nothing was sent for longest, as far
+    /// as the loops looked. Else the further one is closed.
     pub gives_way: bool,
 }
 
@@ -47,8 +47,8 @@ impl HttpTerms {
         }
     }
 
-    /// What the face of a connection does with a request, where its address allows this and its peer
-    /// comes by this way.
+    /// What the face of a connection does with a request, where its address allows this and its
+    /// peer comes by this way.
     pub(crate) fn rules<'a>(&self, rights: &'a Rights, way: Way) -> Rules<'a>
         ensures sources { result.sources ≡ self.now.sources }
         ensures granted { result.granted ≡ self.now.granted }

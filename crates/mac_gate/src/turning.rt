@@ -36,9 +36,9 @@ impl InTurn {
     ghost use Rattle.mac_gate.specs.Answered.{TakesTurn, known_to};
     ghost use Rattle.mac_gate.specs.Going.{GoesOn, past_in_turn, past_of};
 
-    /// Answers what was heard, and writes once. A fault ends the connection. Behind the last response
-    /// no more is written: what still comes is read and dropped, so that the peer reads that response
-    /// and no reset.
+    /// Answers what was heard, and writes once. A fault ends the connection. Behind the last
+    /// response no more is written: what still comes is read and dropped, so that the peer reads
+    /// that response and no reset.
     pub fn answer<R: Wait + Clock + RandomSource>(
         self,
         answering: &mut Answering<'_, R>,

@@ -1,9 +1,9 @@
 //! The connections of a loop, which of them are ready, and when one has taken too long.
 
-ghost use Rattle.std.specs.Prelude.{◌≡◌, ◌≢◌, ℕ, false, true};
+ghost use Rattle.std.specs.Prelude.{◌≡◌, ◌≢◌, ℕ, IfOk, false, true};
 ghost use Rattle.mac_gate.specs.Answered.{HasTurn, known_to};
-ghost use Rattle.mac_gate.specs.Going.{KeepTheirs, StayInPlace, past_at, past_of};
-ghost use Rattle.mac_slots.specs.Slots.{Lent, at};
+ghost use Rattle.mac_gate.specs.Going.{KeepTheirs, StayInPlace, TakesIn, past_at, past_of};
+ghost use Rattle.mac_slots.specs.Slots.{Lent, at, no_slots};
 
 use crate::answering::Answering;
 use crate::connection::HttpConnection;
@@ -58,7 +58,9 @@ impl Waiting {
         alloc: Global,
         patience: u64,
         budget: &Arc<SharedBudget, Global>,
-    ) -> io::Result<(Waiting, Waker)> {
+    ) -> io::Result<(Waiting, Waker)>
+        ensures { IfOk result (λ made. made.0.connections.slots ≡ no_slots) }
+    {
         let (connections, waker) = Connections::new(rt, alloc)?;
         let waiting = Waiting {
             account: Account::open(rt, budget, connections.waker()?)?,
@@ -88,7 +90,9 @@ impl Waiting {
 
     /// Waits until some are ready, and no longer than until one has to be looked at. Where it is
     /// the turn of one with a dear request, it only looks.
-    pub fn wait<R: Clock>(&mut self, rt: &R) {
+    pub fn wait<R: Clock>(&mut self, rt: &R)
+        ensures { KeepTheirs self.old.connections.slots self.new.connections.slots }
+    {
         let now = self.now();
         let due = if self.dear.is_empty() {
             self.next_due()
@@ -113,24 +117,38 @@ impl Waiting {
     }
 
     /// Lists those of whom something was put off until now.
-    fn look_again(&mut self) {
+    fn look_again(&mut self)
+        ensures { KeepTheirs self.old.connections.slots self.new.connections.slots }
+    {
         let now = self.now();
         for _ in 0..self.put_off.len() {
-            match self.put_off.front() {
-                Some(first) if first.at <= now => {}
-                _ => return,
-            }
-            if let Some(first) = self.put_off.pop_front() {
-                self.take_up(first.slot);
-            }
+            let Some(slot) = self.next_put_off(now) else {
+                return;
+            };
+            self.take_up(slot);
         }
     }
 
-    /// Lists a slot whose connection has something that was put off.
-    fn take_up(&mut self, slot: usize) {
-        if let Some(one) = self.connections.slots.get_mut(slot) {
-            one.take_up();
+    /// The first slot of which something was put off until now, which it is no more.
+    fn next_put_off(&mut self, now: u64) -> Option<usize>
+        ensures { self.new.connections.slots ≡ self.old.connections.slots }
+    {
+        let first = self.put_off.front()?;
+        if now < first.at {
+            return None;
         }
+        let first = self.put_off.pop_front()?;
+        Some(first.slot)
+    }
+
+    /// Lists a slot whose connection has something that was put off.
+    fn take_up(&mut self, slot: usize)
+        ensures { KeepTheirs self.old.connections.slots self.new.connections.slots }
+    {
+        let Some(one) = self.connections.slots.get_mut(slot) else {
+            return;
+        };
+        one.take_up();
         self.connections.wake(slot, Readiness::UNTOLD);
     }
 
@@ -146,7 +164,9 @@ impl Waiting {
     }
 
     /// Takes a connection in, and has the poll tell of it. Whether that could be.
-    pub fn begin(&mut self, one: HttpConnection) -> bool {
+    pub fn begin(&mut self, one: HttpConnection) -> bool
+        ensures { TakesIn (past_of one) self.old.connections.slots self.new.connections.slots }
+    {
         let Ok(slot) = self.connections.slots.reserve() else {
             return false;
         };
@@ -187,13 +207,14 @@ impl Waiting {
 
     /// Lets the connection go to which nothing was sent for longest, where that is for long enough.
     /// Whether there is one.
-    pub fn drop_stalest(&mut self) -> bool {
-        match self.stalest() {
-            Some((slot, since)) if self.now().saturating_sub(since) >= REST_MIN => self.release(
-                slot,
-            ),
-            _ => false,
-        }
+    pub fn drop_stalest(&mut self) -> bool
+        ensures { StayInPlace self.old.connections.slots self.new.connections.slots }
+    {
+        let Some((slot, since)) = self.stalest() else {
+            return false;
+        };
+        let has_rested = self.now().saturating_sub(since) >= REST_MIN;
+        has_rested && self.release(slot)
     }
 
     /// Lets the connection of a slot go. Whether there is one.
@@ -214,19 +235,25 @@ impl Waiting {
     }
 
     /// Has the memory that one turn may take, where one is due. Whether there is as much.
-    pub fn has_room<R: Wait>(&mut self, rt: &R) -> bool {
+    pub fn has_room<R: Wait>(&mut self, rt: &R) -> bool
+        ensures { self.new.connections.slots ≡ self.old.connections.slots }
+    {
         let more = if self.has_turn() { TURN_ROOM } else { 0 };
         self.account.has_room(rt, more)
     }
 
     /// Gives back what turns haven't taken, and what those had who have left.
-    pub fn settle<R: Wait>(&mut self, rt: &R) {
+    pub fn settle<R: Wait>(&mut self, rt: &R)
+        ensures { self.new.connections.slots ≡ self.old.connections.slots }
+    {
         let _ = self.account.settle(rt);
     }
 
     /// Lets the connection go that holds most, where one of this loop is to end. Whether there is
     /// one.
-    pub fn drop_heaviest<R: Wait>(&mut self, rt: &R) -> bool {
+    pub fn drop_heaviest<R: Wait>(&mut self, rt: &R) -> bool
+        ensures { StayInPlace self.old.connections.slots self.new.connections.slots }
+    {
         if !self.account.must_end(rt) {
             return false;
         }
@@ -266,7 +293,9 @@ impl Waiting {
     }
 
     /// Takes nothing more from those that are idle than what has come.
-    pub fn end_idle(&mut self) {
+    pub fn end_idle(&mut self)
+        ensures { KeepTheirs self.old.connections.slots self.new.connections.slots }
+    {
         for slot in 0..self.bound() {
             self.end_if_idle(slot);
         }
@@ -285,7 +314,9 @@ impl Waiting {
 
     /// The next slot that is ready. None where its connection has a dear request: it waits for its
     /// turn among those, but where there is no memory.
-    pub fn next_ready(&mut self) -> Option<usize> {
+    pub fn next_ready(&mut self) -> Option<usize>
+        ensures { KeepTheirs self.old.connections.slots self.new.connections.slots }
+    {
         let slot = self.connections.slots.next_ready()?;
         let one = self.connections.slots.get(slot)?;
         if one.is_dear() && self.dear.put(slot).is_ok() {
@@ -296,15 +327,20 @@ impl Waiting {
     }
 
     /// Notes that the connection of a slot waits for its turn from now on.
-    fn note_wait(&mut self, slot: usize) {
+    fn note_wait(&mut self, slot: usize)
+        ensures { KeepTheirs self.old.connections.slots self.new.connections.slots }
+    {
         let now = self.now();
-        if let Some(one) = self.connections.slots.get_mut(slot) {
-            one.begin_wait(now);
-        }
+        let Some(one) = self.connections.slots.get_mut(slot) else {
+            return;
+        };
+        one.begin_wait(now);
     }
 
     /// The same of the next one with a dear request.
-    pub fn next_dear(&mut self) -> Option<usize> {
+    pub fn next_dear(&mut self) -> Option<usize>
+        ensures { self.new.connections.slots ≡ self.old.connections.slots }
+    {
         self.dear.next()
     }
 
@@ -338,8 +374,8 @@ impl Waiting {
         false
     }
 
-    /// Notes until when one that goes on has to be looked at. Where the server ends, it takes nothing
-    /// more than what has come, if it is idle.
+    /// Notes until when one that goes on has to be looked at. Where the server ends, it takes
+    /// nothing more than what has come, if it is idle.
     fn go_on(&mut self, slot: usize, is_ending: bool)
         ensures { KeepTheirs self.old.connections.slots self.new.connections.slots }
     {
@@ -394,7 +430,8 @@ impl Waiting {
         self.list(slot);
     }
 
-    /// Somebody has to be looked at so long from now, if at all, and soon where he is owed something.
+    /// Somebody has to be looked at so long from now, if at all, and soon where he is owed
+    /// something.
     fn expect_within(&mut self, left: Option<u64>, is_owed: bool)
         ensures { self.new.connections.slots ≡ self.old.connections.slots }
     {
@@ -418,7 +455,9 @@ impl Waiting {
     }
 
     /// Whether it is time to look at all of them, which begins then.
-    pub fn begins_look(&mut self) -> bool {
+    pub fn begins_look(&mut self) -> bool
+        ensures { self.new.connections.slots ≡ self.old.connections.slots }
+    {
         let now = self.now();
         let is_due = self.due.is_some_and(|due| due <= now);
         if is_due {
@@ -435,7 +474,9 @@ impl Waiting {
     /// Lets the connection of a slot go, where its peer has taken too long, and looks again at one
     /// that is owed something. So an event that was missed delays it, and no more. Whether one was
     /// let go.
-    pub fn look(&mut self, slot: usize) -> bool {
+    pub fn look(&mut self, slot: usize) -> bool
+        ensures { StayInPlace self.old.connections.slots self.new.connections.slots }
+    {
         let Some(one) = self.connections.slots.get(slot) else {
             return false;
         };

@@ -55,8 +55,8 @@ impl Weight {
         self.bytes > LIGHT_MAX || self.fresh() == LIGHT_MAX
     }
 
-    /// How many bytes a turn reads at most, where one reads so many of a dear request. Of another one
-    /// it reads no more than such a request may have, so that none is answered which is longer.
+    /// How many bytes a turn reads at most, where one reads so many of a dear request. Of another
+    /// one it reads no more than such a request may have, so that none is answered which is longer.
     pub fn read_limit(&self, most: u64) -> u64
         ensures { result ≡ read_limit self.now most }
     {

@@ -111,8 +111,8 @@ impl Host {
         self.notices.tell_revoked(rt, file, news);
     }
 
-    /// Counts a further server. The end shuts it so, and waits until it takes no connections any more,
-    /// and has none.
+    /// Counts a further server. The end shuts it so, and waits until it takes no connections any
+    /// more, and has none.
     pub fn open_server<R: Wait>(
         &self,
         rt: &R,

@@ -10,8 +10,8 @@ use mac_log::{Fields, Key, NoMemory, is_told_id};
 use std::alloc::Global;
 
 /// The fields, behind those that there are: what the request asked for, under which name, what it
-/// was answered, why it wasn't done, what it is told apart by, and of which identifier its token is.
-/// No token and no fact is told.
+/// was answered, why it wasn't done, what it is told apart by, and of which identifier its token
+/// is. No token and no fact is told.
 pub(crate) fn request_fields(
     alloc: Global,
     fields: Fields,

@@ -34,8 +34,8 @@ pub enum Finding {
     ManyFacts,
     /// The clock told no moment.
     NoMoment,
-    /// The token came by this scheme and is refused, for this reason: it is none under the name's keys,
-    /// or was taken back, or the name has none that may be used.
+    /// The token came by this scheme and is refused, for this reason: it is none under the name's
+    /// keys, or was taken back, or the name has none that may be used.
     Invalid(Scheme, Refusal),
     /// The index of the first caveat that isn't satisfied, from 0.
     Unsatisfied(u16),

@@ -13,7 +13,6 @@ ghost use Rattle.http_server.specs.declared.response.Response.{Response};
 ghost use Rattle.http_server.specs.History.{new_history};
 ghost use Rattle.http_server.specs.Response.{IsResponse, fields_of};
 ghost use Rattle.http_uri.specs.Uri.{uri_path};
-ghost use Rattle.mac_board.specs.Follows.{Known};
 ghost use Rattle.mac_calls.specs.Counted.{are_few};
 ghost use Rattle.mac_decide.specs.Reading.{verdict_of};
 ghost use Rattle.mac_decide.specs.Answer.{keys_of};
@@ -34,7 +33,7 @@ ghost use Rattle.mac_calls.specs.declared.call.Call.{Call};
 ghost use Rattle.mac_http.specs.Browsing.{is_of_page};
 ghost use Rattle.mac_http.specs.Calling.{RespondsToCall};
 ghost use Rattle.mac_http.specs.Escaped.{escaped};
-ghost use Rattle.mac_http.specs.Faced.{IsAnswer, IsFaced};
+ghost use Rattle.mac_http.specs.Faced.{FaceState, IsAnswer, IsFaced};
 ghost use Rattle.mac_http.specs.Facts.{facts_of, tells_fragment, tells_unsafe};
 ghost use Rattle.mac_http.specs.Found.{found_of, found_with, context_of, IsGrantedBy, IsHeld};
 ghost use Rattle.mac_http.specs.Noted.{IsSignedBy, signed_in};
@@ -42,7 +41,7 @@ ghost use Rattle.mac_http.specs.Reason.{is_signed};
 ghost use Rattle.mac_http.specs.Target.{target_in};
 ghost use Rattle.mac_http.specs.Path.{steps, IsStep};
 ghost use Rattle.mac_http.specs.Saying.{AreToldAlike, IsOverloaded, Tells};
-ghost use Rattle.mac_http.specs.Turn.{AnswersOnce, IsTurn};
+ghost use Rattle.mac_http.specs.Turn.{AnswersOnce, IsTurn, NotesCalls};
 
 use crate::finding::Finding;
 use crate::rules::Way;
@@ -83,8 +82,8 @@ pub fn response_tells_the_finding()
         → (r.status ≡ s.status) × (fields_of r ≡ fields_of s) × (r.body.items ≡ s.body.items) }
 {}
 
-/// A response doesn't say why a token is refused: one that was taken back, as one of another key, as
-/// one of a name that has none.
+/// A response doesn't say why a token is refused: one that was taken back, as one of another key,
+/// as one of a name that has none.
 pub fn refused_tokens_are_told_alike()
     ensures { (scheme : PlainScheme) (why other : PlainRefusal)
         → AreToldAlike (Finding.Invalid scheme why) (Finding.Invalid scheme other) }
@@ -121,8 +120,8 @@ pub fn pages_have_nothing_done()
         → IsResponse 403 [] [] response ⊎ IsOverloaded response }
 {}
 
-/// The token of a request is noted as signed only where it is one, and one of the keys of the name in
-/// its path gives the signature. So of any other no identifier is told.
+/// The token of a request is noted as signed only where it is one, and one of the keys of the name
+/// in its path gives the signature. So of any other no identifier is told.
 pub fn noted_tokens_are_signed()
     ensures { (table : Table) (rules : PlainRules) (moment : Option ℕ) (head : Parts)
         (bytes : List ℕ) → signed_in (is_signed (found_of table rules moment head)) head
@@ -177,18 +176,29 @@ pub fn turns_compose<S: Service>()
         → IsTurn S.answers unread left before after first last old new }
 {}
 
-/// A service that answers each request by one look at its tables and at one moment of its clock, as
-/// a [`Face`](crate::Face) does, has written to a connection, from its begin to the end of each of its
-/// turns, the responses to its requests, in order, each right under its table and at its moment.
+/// A service that answers each request by one look at its tables and at one moment of its clock,
+/// and notes it once unless it is for a page, as a [`Face`](crate::Face) does, has written to a
+/// connection, from its begin to the end of each of its turns, the responses to its requests, in
+/// order, each right under its table and at its moment. As many were noted as are for no page.
 pub fn turns_are_faced<S: Service>()
-    ensures { (tells : Bool) (known : S → Known) (rules : S → PlainRules)
-        (told : S → List (Option ℕ))
+    ensures { (tells : Bool) (state : S → FaceState)
         → ((one : S) (request : PlainRequest (List ℕ)) (response : Response) (other : S)
         → S.answers one request response other
-        → AnswersOnce tells known rules told one request response other)
+        → AnswersOnce tells state one request response other)
         → (unread left before after : Option (List ℕ)) (first last : S) (old new : Connection)
         → history old ≡ new_history → config_of old ≡ CONFIG
         → IsTurn S.answers unread left before after first last old new
-        → IsFaced tells (known first) (known last) (rules first) unread left before after
-        (told first) (told last) }
+        → IsFaced tells (state first) (state last) unread left before after }
+{}
+
+/// Over a turn such a service notes as many requests as it answers, but for those for a page.
+pub fn turns_are_noted<S: Service>()
+    ensures { (tells : Bool) (state : S → FaceState)
+        → ((one : S) (request : PlainRequest (List ℕ)) (response : Response) (other : S)
+        → S.answers one request response other
+        → AnswersOnce tells state one request response other)
+        → (unread left before after : Option (List ℕ)) (first last : S) (old new : Connection)
+        → IsTurn S.answers unread left before after first last old new
+        → NotesCalls (state first).noted (state last).noted (history old).calls
+        (history new).calls }
 {}

@@ -5,8 +5,8 @@
 //! the token, the [`Sources`] that are named bring facts, and [`Moments`](mac_board::Moments) the
 //! moment. A [`Monitor`] fills the pages that tell of the daemon. The [`Calls`] that are allowed
 //! bring JSON, which `mac_calls` answers. Which names may be used, and whether a mint is answered,
-//! `mac_decide`'s [`Rights`](mac_decide::Rights) say. [`take_turn`] answers a connection, a turn at a
-//! time. No sockets are opened here.
+//! `mac_decide`'s [`Rights`](mac_decide::Rights) say. [`take_turn`] answers a connection, a turn at
+//! a time. No sockets are opened here.
 #![tactic(auto)]
 
 mod attending;
@@ -18,6 +18,7 @@ mod face;
 mod facts;
 mod finding;
 mod footing;
+mod happened;
 pub mod laws;
 mod noted;
 mod page;

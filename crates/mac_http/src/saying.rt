@@ -27,8 +27,9 @@ const IDENTIFIER: &str = "macaroon-identifier";
 
 const LOCATION: &str = "macaroon-location";
 
-/// Fills a blank response to a request. Where memory is refused it is a 503 without fields. What came
-/// of the request tells more than the response does, which tells all tokens that are refused alike.
+/// Fills a blank response to a request. Where memory is refused it is a 503 without fields. What
+/// came of the request tells more than the response does, which tells all tokens that are refused
+/// alike.
 pub fn respond(
     alloc: Global,
     footing: Footing<'_>,

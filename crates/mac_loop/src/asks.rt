@@ -1,5 +1,5 @@
-//! What a loop has workers answer: jobs go into their line from the loop's desk, and the answers come
-//! back to its mailbox. Those that wait go there in turn by the sockets that they came by.
+//! What a loop has workers answer: jobs go into their line from the loop's desk, and the answers
+//! come back to its mailbox. Those that wait go there in turn by the sockets that they came by.
 
 ghost use Rattle.std.specs.Prelude.{◌≡◌};
 ghost use Rattle.mac_loop.specs.Asks.{home_of};
@@ -16,8 +16,8 @@ use std::alloc::Global;
 use std::marker::Model;
 use std::sync::Wait;
 
-/// How many jobs of a loop are in the line for each worker at most: one that the worker has, and the
-/// next one.
+/// How many jobs of a loop are in the line for each worker at most: one that the worker has, and
+/// the next one.
 const FOR_EACH_WORKER: usize = 2;
 
 /// Who asked: the client of a slot, by the number of its connection.

@@ -14,8 +14,8 @@ use std::alloc::Global;
 use std::sync::Arc;
 
 /// A connection that has ended. What was written to it is a beginning of the framed answers to what
-/// was read from it, in order, each once, under its rights. Where no fault is told, it is the answers
-/// to all that was read. Its socket is closed once this is dropped.
+/// was read from it, in order, each once, under its rights. Where no fault is told, it is the
+/// answers to all that was read. Its socket is closed once this is dropped.
 #[derive(Drop)]
 pub struct EndedLife {
     /// What it has come to.

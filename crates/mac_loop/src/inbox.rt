@@ -181,8 +181,8 @@ impl Loops {
     }
 
     /// Hands a client to the loop of which one of a socket is to give way to it. It comes back
-    /// without memory, where none of its own socket has rested for long enough to give way to it, and
-    /// where as many of its socket are on their way so as may be.
+    /// without memory, where none of its own socket has rested for long enough to give way to it,
+    /// and where as many of its socket are on their way so as may be.
     pub fn hand_displacing<R: Wait>(
         &self,
         rt: &R,
@@ -259,8 +259,8 @@ impl Loops {
         }
     }
 
-    /// The loop whose clients include the one that has rested longest of those of a socket, and since
-    /// when that has.
+    /// The loop whose clients include the one that has rested longest of those of a socket, and
+    /// since when that has.
     fn stalest(&self, socket: Socket) -> (usize, u64) {
         let (mut found, mut earliest) = (0, u64::MAX);
         for (number, side) in self.sides.iter().enumerate() {

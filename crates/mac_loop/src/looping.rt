@@ -101,7 +101,8 @@ impl Loop {
 
     /// Serves clients until the loops are closed and this one has none, what they send in each turn
     /// under the key table that is up once it is read, and at the moment of then. What a loop must
-    /// not answer goes to workers from this desk, which comes back, with what became of each client.
+    /// not answer goes to workers from this desk, which comes back, with what became of each
+    /// client.
     pub fn run<R, K, W>(
         mut self,
         rt: &R,
@@ -201,7 +202,8 @@ impl Loop {
         Some(Duration::from_micros(self.sweep_span()))
     }
 
-    /// Fits the next turn to the microseconds that this one took, and shares clients with other loops.
+    /// Fits the next turn to the microseconds that this one took, and shares clients with other
+    /// loops.
     fn keep_time<R: Wait + Clock, K: Outlook, W: Watch>(
         &mut self,
         rt: &R,

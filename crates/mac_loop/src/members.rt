@@ -118,8 +118,8 @@ impl Member {
         counted
     }
 
-    /// Counts how many bytes of memory it holds: so many before, and so many now. Where its requests
-    /// are noted, what has begun to come is there a second time.
+    /// Counts how many bytes of memory it holds: so many before, and so many now. Where its
+    /// requests are noted, what has begun to come is there a second time.
     pub fn count_held(&mut self) -> (u64, u64)
         ensures { self.new.client ≡ self.old.client }
     {
@@ -142,8 +142,8 @@ impl Member {
         self.note.since
     }
 
-    /// Notes whether it rests: one doesn't that made progress, or waits for a worker's answer. Since
-    /// when it has rested, in microseconds.
+    /// Notes whether it rests: one doesn't that made progress, or waits for a worker's answer.
+    /// Since when it has rested, in microseconds.
     pub fn note_rest(&mut self, now: u64) -> u64
         ensures { self.new.client ≡ self.old.client }
     {
@@ -300,8 +300,8 @@ impl Member {
         self.note.look == looks
     }
 
-    /// It begins a turn behind so many looks. How many parts of the turn it takes: one, or `deep` of
-    /// them where it has more to be read than a turn takes.
+    /// It begins a turn behind so many looks. How many parts of the turn it takes: one, or `deep`
+    /// of them where it has more to be read than a turn takes.
     pub fn begin_turn(&mut self, deep: usize, looks: u64) -> usize {
         self.note.look = looks;
         if self.note.is_deep { deep } else { 1 }

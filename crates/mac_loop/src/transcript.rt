@@ -99,8 +99,8 @@ impl Transcript {
         Box::new(self.alloc, RefCell::new(self)).ok()
     }
 
-    /// Whether as many requests wait for their replies as may be, so that nothing more is to be read
-    /// until some have gone out.
+    /// Whether as many requests wait for their replies as may be, so that nothing more is to be
+    /// read until some have gone out.
     pub fn is_full(&self) -> bool {
         !self.is_broken && self.asked.len() >= NOTES_MAX
     }

@@ -67,7 +67,8 @@ impl PlainFault {
 /// What a turn of a loop came to.
 #[derive(Clone, Copy)]
 pub struct Turn {
-    /// How many requests were answered, each kind at its place, but for those that workers answered.
+    /// How many requests were answered, each kind at its place, but for those that workers
+    /// answered.
     pub requests: [u64; REQUESTS],
     /// What came from its clients, and went to them.
     pub traffic: Traffic,
@@ -96,8 +97,8 @@ pub trait Watch: Send + Sync {
     /// no room for that.
     fn gives_way<R: Wait>(&self, rt: &R, comes: Socket) -> Option<Socket>;
 
-    /// A client comes in the place of one that has ended so, or of nobody. What it is known by, where
-    /// there is room for it. That the other one's end was told is noted.
+    /// A client comes in the place of one that has ended so, or of nobody. What it is known by,
+    /// where there is room for it. That the other one's end was told is noted.
     fn displace<R: Wait + Clock>(
         &self,
         rt: &R,

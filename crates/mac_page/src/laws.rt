@@ -57,8 +57,8 @@ pub fn host_is_the_site()
 {}
 
 /// A service that answers each request as a site does, and stays that site's, as a
-/// [`PageFace`](crate::PageFace) does, has written to a connection, from its begin to the end of each
-/// of its turns, the responses that the site has for its requests, in order, each once.
+/// [`PageFace`](crate::PageFace) does, has written to a connection, from its begin to the end of
+/// each of its turns, the responses that the site has for its requests, in order, each once.
 pub fn turns_are_paged<S: Service>()
     ensures { (site : S → PlainSite)
         → ((one : S) (request : PlainRequest (List ℕ)) (response : Response) (other : S)

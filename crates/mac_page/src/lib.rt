@@ -2,8 +2,8 @@
 //!
 //! A [`PageFace`] is a [`Service`](http_server::Service) that answers for a [`Site`]. The files are
 //! the same for everyone, and tell nothing. Whatever else isn't asked by the site's own page, which
-//! alone has its secret, is refused before anything else. Calls are answered by `mac_calls`. Who has
-//! the sockets answers a connection by turns of `mac_http`.
+//! alone has its secret, is refused before anything else. Calls are answered by `mac_calls`. Who
+//! has the sockets answers a connection by turns of `mac_http`.
 #![tactic(auto)]
 
 mod face;

@@ -31,8 +31,8 @@ const SHARED_MIN: usize = 65_536;
 /// How many threads answer together what a memory tells: for more there is too little to do.
 const TELLERS: usize = 2;
 
-/// What answering keeps from run to run: its allocator, rooms for tokens, a memory of those that were
-/// seen, and a tally of what was answered.
+/// What answering keeps from run to run: its allocator, rooms for tokens, a memory of those that
+/// were seen, and a tally of what was answered.
 #[derive(Drop)]
 pub struct Bench {
     pub alloc: Global,

@@ -122,8 +122,8 @@ pub fn what_ended_well_is_all()
         → SaidAll rights came went Ending.Clean }
 {}
 
-/// Of a life that ends in a frame that is too long, and of which nothing is unsent, all that arrived
-/// is answered, and all of the answers were written.
+/// Of a life that ends in a frame that is too long, and of which nothing is unsent, all that
+/// arrived is answered, and all of the answers were written.
 pub fn what_ended_too_long_is_all()
     ensures { (rights : Rights) (came went : List ℕ) (session : Session)
         → session.unsent ≡ [] → Lives rights came went Course.TooLong session

@@ -138,8 +138,8 @@ impl Round {
         true
     }
 
-    /// Has a client take a worker's answer. What it is to be counted as, where it is the one that the
-    /// client waits for. The token of a verify that it grants is remembered.
+    /// Has a client take a worker's answer. What it is to be counted as, where it is the one that
+    /// the client waits for. The token of a verify that it grants is remembered.
     pub fn deliver<P: Port>(
         &mut self,
         client: &mut Client<P>,
@@ -169,8 +169,8 @@ impl Round {
         }
     }
 
-    /// Remembers the token of a verify that a worker has granted, unless much was remembered so since
-    /// the last round.
+    /// Remembers the token of a verify that a worker has granted, unless much was remembered so
+    /// since the last round.
     fn remember(&mut self, job: &JobView<'_>, reply: &Reply)
         requires { reply.now ≡ reply_to_job (viewed job.now) }
     {
@@ -184,8 +184,8 @@ impl Round {
         }
     }
 
-    /// How many requests were answered since the last call, each kind at its place, but for those that
-    /// workers answered.
+    /// How many requests were answered since the last call, each kind at its place, but for those
+    /// that workers answered.
     pub fn take_counts(&mut self) -> [u64; REQUESTS]
         ensures taken { result ≡ counts_of self.old.bench.tally }
         ensures none_left { counts_of self.new.bench.tally ≡ no_counts }

@@ -1,6 +1,6 @@
 -- The connections of a loop, by their slots.
-use Rattle.std.specs.Prelude.{ℕ, sum_by}
-use Rattle.mac_slots.specs.Slots.{Slot, Slots, Free, Lent, Held}
+use Rattle.std.specs.Prelude.{ℕ, Option, None, Some, sum_by}
+use Rattle.mac_slots.specs.Slots.{Slot, Slots, Free, Lent, Held, at, held}
 
 module _ {C : Type 0} where
   -- what a slot weighs: as much as its connection, and nothing where it holds none
@@ -16,3 +16,14 @@ module _ {C : Type 0} where
   -- how many slots hold one: there each weighs one
   abbrev pub count_held : Slots C → ℕ
   count_held slots = weighed (λ connection. 1) slots
+
+  -- a connection is there exactly where one was, and is like whatever that one was like
+  abbrev pub IsStillAlike : (C → C → Type 0) → Option C → Option C → Type 0
+  IsStillAlike alike None None = Unit {0}
+  IsStillAlike alike None (Some new) = ⊥
+  IsStillAlike alike (Some old) None = ⊥
+  IsStillAlike alike (Some old) (Some new) = (one : C) → alike one old → alike one new
+
+  -- that of each slot
+  abbrev pub StayAlike : (C → C → Type 0) → Slots C → Slots C → Type 0
+  StayAlike alike old new = (slot : ℕ) → IsStillAlike alike (held (at old slot)) (held (at new slot))

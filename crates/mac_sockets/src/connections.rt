@@ -5,7 +5,7 @@ ghost use Rattle.std.specs.Borrow.{sem};
 ghost use Rattle.std.specs.Option.{option_copied_mut};
 ghost use Rattle.std.specs.Prelude.{◌≡◌, ℕ, IfOk};
 ghost use Rattle.mac_slots.specs.Slots.{at, held, no_slots};
-ghost use Rattle.mac_sockets.specs.Connections.{count_held, weighed};
+ghost use Rattle.mac_sockets.specs.Connections.{StayAlike, count_held, weighed};
 
 use mac_slots::Slots;
 use mio::{Events, Poll, Registry, Token, Waker};
@@ -48,9 +48,13 @@ pub trait Wakes {
     /// What it weighs: a number of which its loop keeps the sum, and which no event changes.
     ghost weight: { Self → ℕ } = { λ _. 0 };
 
+    /// Which other connections it is like, in what no event changes.
+    ghost alike: { Self → Self → Type 0 } = { λ _ _. Unit {0} };
+
     /// Notes what may be so of its socket. Whether it is ready for a turn.
     fn wake(&mut self, told: Readiness) -> bool
-        ensures { weight self.new ≡ weight self.old };
+        ensures weight { weight self.new ≡ weight self.old }
+        ensures alike { (one : Self) → alike one self.old → alike one self.new };
 }
 
 /// The connections of a loop in their slots, and the poll that tells of them.
@@ -101,6 +105,7 @@ impl<C: Wakes + Drop> Connections<C> {
     pub fn wait<R: Clock>(&mut self, rt: &R, patience: Option<Duration>)
         ensures count { count_held self.new.slots ≡ count_held self.old.slots }
         ensures weight { weighed C.weight self.new.slots ≡ weighed C.weight self.old.slots }
+        ensures alike { StayAlike C.alike self.old.slots self.new.slots }
     {
         let patience = if self.slots.has_ready() {
             Some(Duration::from_secs(0))
@@ -132,6 +137,7 @@ impl<C: Wakes + Drop> Connections<C> {
     pub fn wake(&mut self, slot: usize, told: Readiness)
         ensures count { count_held self.new.slots ≡ count_held self.old.slots }
         ensures weight { weighed C.weight self.new.slots ≡ weighed C.weight self.old.slots }
+        ensures alike { StayAlike C.alike self.old.slots self.new.slots }
     {
         wake(&mut self.slots, slot, told);
     }
@@ -140,6 +146,7 @@ impl<C: Wakes + Drop> Connections<C> {
 fn wake<C: Wakes + Drop>(slots: &mut Slots<C>, slot: usize, told: Readiness)
     ensures count { count_held slots.new ≡ count_held slots.old }
     ensures weight { weighed C.weight slots.new ≡ weighed C.weight slots.old }
+    ensures alike { StayAlike C.alike slots.old slots.new }
 {
     let Some(connection) = slots.get_mut(slot) else {
         return;

@@ -16,7 +16,7 @@ pub struct Doors<G> {
 }
 
 impl<G: Drop> Doors<G> {
-    ghost use Rattle.std.specs.Prelude.{◌≡◌, ◌++◌, ◌∷◌, [], OnOk};
+    ghost use Rattle.std.specs.Prelude.{◌≡◌, ◌==◌, ◌++◌, ◌∷◌, [], OnOk, length};
     ghost use Rattle.mac_sockets.specs.Entrance.{gift_of, gifts_of, opened};
 
     /// No door yet.
@@ -29,7 +29,9 @@ impl<G: Drop> Doors<G> {
     }
 
     /// Whether there is none.
-    pub fn is_empty(&self) -> bool {
+    pub fn is_empty(&self) -> bool
+        ensures { result ≡ (length (opened self.now) == 0) }
+    {
         self.doors.is_empty()
     }
 

@@ -19,9 +19,9 @@ use mac_token::{TokenFault, read};
 use mac_wire::{FieldList, NoMemory};
 use std::alloc::{AllocError, Global};
 
-/// Two lines for each caveat of a token that isn't satisfied at a moment, in seconds since 1970, with
-/// these facts: the caveat with its place, and why. Bytes that are no token have none, and no key is
-/// asked for.
+/// Two lines for each caveat of a token that isn't satisfied at a moment, in seconds since 1970,
+/// with these facts: the caveat with its place, and why. Bytes that are no token have none, and no
+/// key is asked for.
 pub fn explain(
     alloc: Global,
     token: &[u8],

@@ -8,8 +8,8 @@ use mac_hmac::RootKey;
 use mac_keys::{KeyTable, Keys};
 use std::alloc::{AllocError, Global};
 
-/// A line for each name of a table, in the order of their bytes, that says how many keys it has, and
-/// their fingerprints.
+/// A line for each name of a table, in the order of their bytes, that says how many keys it has,
+/// and their fingerprints.
 pub fn list_names(alloc: Global, table: &KeyTable) -> Result<Vec<u8>, AllocError>
     ensures { IfOk result (λ text. text.items ≡ names_text table.now) }
 {

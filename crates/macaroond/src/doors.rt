@@ -1,12 +1,13 @@
 //! Doors over HTTP that are open, and what is answered there.
 
 ghost use Rattle.std.specs.Prelude.{◌≡◌, IfOk};
-ghost use Rattle.macaroond.specs.Doors.{AreOpened};
+ghost use Rattle.macaroond.specs.Doors.{AreAllServed, AreOpened, AreServed, IsServed};
 
 use crate::http::{AddressGroup, HttpPlan};
 use crate::key_watch::ListenFault;
-use crate::operating::operators_terms;
-use mac_board::Followers;
+use crate::operating::{OPERATORS_LOOPS, operators_terms};
+use mac_board::{Editor, Followers};
+use mac_daemon::Daemon;
 use mac_decide::Rights;
 use mac_gate::{Content, HttpServer, HttpTerms, ServerFault, open_door, start_server};
 use mac_host::Host;
@@ -33,6 +34,14 @@ pub(crate) struct HttpDoors {
     pub(crate) gateways: OpenDoors,
     pub(crate) callers: OpenDoors,
     pub(crate) operators: OpenDoors,
+}
+
+/// The servers over HTTP of a daemon, for each kind of peers for which doors are open.
+#[derive(Drop)]
+pub(crate) struct HttpServers {
+    gateways: Option<HttpServer>,
+    callers: Option<HttpServer>,
+    operators: Option<HttpServer>,
 }
 
 /// Opens the doors of a plan, those of each kind under its own terms and rights.
@@ -95,10 +104,77 @@ where
     })
 }
 
+impl HttpDoors {
+    /// Has the connections that come in through them answered for a daemon, those of gateways and
+    /// of callers by so many loops each.
+    pub(crate) fn serve<'a, R>(
+        self,
+        rt: &R,
+        editor: &Editor<R>,
+        daemon: &Daemon,
+        loops: usize,
+    ) -> Result<HttpServers, ListenFault<'a>>
+    where
+        R: Alloc<A = Global> + Clock + RandomSource + Net,
+        R: Threads + Wait + Sync + Copy + Send + 'static,
+        ensures { IfOk result (AreAllServed self loops) }
+    {
+        let HttpDoors {
+            gateways,
+            callers,
+            operators,
+        } = self;
+        let gateways = gateways.serve_any(rt, editor, daemon, loops)?;
+        let callers = callers.serve_any(rt, editor, daemon, loops)?;
+        let operators = operators.serve_any(rt, editor, daemon, OPERATORS_LOOPS)?;
+        Ok(HttpServers {
+            gateways,
+            callers,
+            operators,
+        })
+    }
+}
+
+impl HttpServers {
+    /// Has them take no further connections.
+    pub(crate) fn end(&self) {
+        end_any(&self.gateways);
+        end_any(&self.callers);
+        end_any(&self.operators);
+    }
+}
+
+/// Has a server take no further connections, where there is one.
+fn end_any(server: &Option<HttpServer>) {
+    if let Some(server) = server {
+        server.end();
+    }
+}
+
 impl OpenDoors {
-    /// Has the connections that come in through them answered for a daemon, by so many loops, under
-    /// the tables that are followed.
-    pub(crate) fn serve<R>(
+    /// The same of one kind of peers, where there are any doors.
+    fn serve_any<'a, R>(
+        self,
+        rt: &R,
+        editor: &Editor<R>,
+        daemon: &Daemon,
+        loops: usize,
+    ) -> Result<Option<HttpServer>, ListenFault<'a>>
+    where
+        R: Alloc<A = Global> + Clock + RandomSource + Net,
+        R: Threads + Wait + Sync + Copy + Send + 'static,
+        ensures { IfOk result (AreServed self loops) }
+    {
+        if self.doors.is_empty() {
+            return Ok(None);
+        }
+        let server = self.serve(rt, editor.followers()?, loops, daemon.host()?)?;
+        Ok(Some(server))
+    }
+
+    /// Has the connections that come in through them answered, by so many loops, under the tables
+    /// that are followed.
+    fn serve<R>(
         self,
         rt: &R,
         followers: Followers,
@@ -108,6 +184,7 @@ impl OpenDoors {
     where
         R: Alloc<A = Global> + Net + Clock + RandomSource,
         R: Threads + Wait + Sync + Copy + Send + 'static,
+        ensures { IfOk result (IsServed self loops) }
     {
         let OpenDoors {
             doors,

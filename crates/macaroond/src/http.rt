@@ -109,8 +109,8 @@ impl<'a> HttpPlan<'a> {
     }
 }
 
-/// How many descriptors a server over HTTP may need: one for each connection, two for each door with its lock,
-/// three for each loop to wait by, and three to wait at the doors.
+/// How many descriptors a server over HTTP may need: one for each connection, two for each door
+/// with its lock, three for each loop to wait by, and three to wait at the doors.
 fn server_descriptors(connections: usize, doors: usize, loops: usize) -> u64 {
     (connections as u64)
         .saturating_add((doors as u64).saturating_mul(2))

@@ -3,9 +3,10 @@
 ghost use Rattle.std.specs.Prelude.{IfOk};
 ghost use Rattle.mac_daemon.specs.Asked.{daemon_doors};
 ghost use Rattle.mac_sockets.specs.Entrance.{opened};
+ghost use Rattle.macaroond.specs.Doors.{ArePlanned};
 ghost use Rattle.macaroond.specs.Rights.{GiveInOrder};
 
-use crate::doors::{HttpDoors, OpenDoors, open_plan};
+use crate::doors::{HttpServers, open_plan};
 use crate::http::HttpPlan;
 use crate::operating::{OPERATORS_LOOPS, open_status, warn_of_no_status};
 use crate::watching::{Followed, look_once};
@@ -15,7 +16,7 @@ use mac_daemon::{
     Daemon, DaemonFault, DaemonTerms, FOLLOWERS_MAX, Gift, SideSocket, Surroundings, give, listen,
 };
 use mac_decide::Rights;
-use mac_gate::{Address, DoorFault, HttpServer, ServerFault};
+use mac_gate::{Address, DoorFault, ServerFault};
 use mac_host::{Call, Host};
 use mac_sockets::{Door, Doors, Holdings, PathClaim, PlaceFault};
 use mac_system::handed_listener;
@@ -166,13 +167,11 @@ where
 #[derive(Drop)]
 struct Started {
     daemon: Daemon,
-    gateways: Option<HttpServer>,
-    callers: Option<HttpServer>,
-    operators: Option<HttpServer>,
+    http: HttpServers,
 }
 
-/// Makes the sockets of a daemon and starts the threads that serve them: what comes in at a socket of
-/// its own has the rights that are allowed there. Nobody can reach a Unix socket yet.
+/// Makes the sockets of a daemon and starts the threads that serve them: what comes in at a socket
+/// of its own has the rights that are allowed there. Nobody can reach a Unix socket yet.
 fn start_all<'a, R>(
     rt: &R,
     terms: DaemonTerms<'_>,
@@ -185,33 +184,23 @@ where
     R: Env + Alloc<A = Global> + Eprint + Files<File = File> + Clock + RandomSource,
     R: Net<Listener = TcpListener, Stream = TcpStream>,
     R: Threads + Wait + Sync + Copy + Send + 'static,
-    ensures { IfOk result (λ started. GiveInOrder sockets.entry.rights sockets.entry.side
+    ensures own { IfOk result (λ started. GiveInOrder sockets.entry.rights sockets.entry.side
         (daemon_doors started.daemon)) }
+    ensures http { IfOk result (λ started.
+        ArePlanned sockets.entry.http terms.entry.shape.loops started.http) }
 {
     let Sockets { rights, side, http } = sockets;
     let alloc = rt.alloc();
-    let HttpDoors {
-        gateways,
-        callers,
-        mut operators,
-    } = open_plan(rt, http, holdings)?;
-    let status = open_status(rt, alloc, terms.path, &mut operators.doors, holdings);
+    let mut doors = open_plan(rt, http, holdings)?;
+    let status = open_status(rt, alloc, terms.path, &mut doors.operators.doors, holdings);
     let own = open_own(rt, terms, rights, side, handed, holdings)?;
     let followers = editor.followers()?;
     let daemon = listen(rt, alloc, terms, own, followers, Surroundings::find(rt))?;
     if let Err(fault) = status {
         warn_of_no_status(rt, terms.path, &fault);
     }
-    let loops = terms.shape.loops;
-    let gateways = start_faces(rt, gateways, editor, &daemon, loops)?;
-    let callers = start_faces(rt, callers, editor, &daemon, loops)?;
-    let operators = start_faces(rt, operators, editor, &daemon, OPERATORS_LOOPS)?;
-    Ok(Started {
-        daemon,
-        gateways,
-        callers,
-        operators,
-    })
+    let http = doors.serve(rt, editor, &daemon, terms.shape.loops)?;
+    Ok(Started { daemon, http })
 }
 
 /// The doors of a daemon's own sockets: of the one that was handed over or else is made, and of the
@@ -254,42 +243,9 @@ where
 
 /// Sees a daemon off with its servers over HTTP.
 fn end_all<R: Wait + Clock>(rt: &R, started: Started) {
-    let Started {
-        daemon,
-        gateways,
-        callers,
-        operators,
-    } = started;
-    if let Some(gateways) = gateways {
-        gateways.end();
-    }
-    if let Some(callers) = callers {
-        callers.end();
-    }
-    if let Some(operators) = operators {
-        operators.end();
-    }
+    let Started { daemon, http } = started;
+    http.end();
     daemon.see_off(rt);
-}
-
-/// Has the connections that come in through these doors answered by so many loops, where there are
-/// any doors.
-fn start_faces<'a, R>(
-    rt: &R,
-    opened: OpenDoors,
-    editor: &Editor<R>,
-    daemon: &Daemon,
-    loops: usize,
-) -> Result<Option<HttpServer>, ListenFault<'a>>
-where
-    R: Alloc<A = Global> + Clock + RandomSource + Net,
-    R: Threads + Wait + Sync + Copy + Send + 'static,
-{
-    if opened.doors.is_empty() {
-        return Ok(None);
-    }
-    let server = opened.serve(rt, editor.followers()?, loops, daemon.host()?)?;
-    Ok(Some(server))
 }
 
 /// What a daemon looks at now and then, by their paths.

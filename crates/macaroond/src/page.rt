@@ -2,6 +2,7 @@
 ghost use Rattle.std.specs.Prelude.{◌≡◌, IfOk};
 ghost use Rattle.std.specs.Option.{is_some};
 ghost use Rattle.mac_commands.specs.Doing.{IsKeyTable};
+ghost use Rattle.macaroond.specs.Doors.{ShowsSite};
 
 use crate::descriptors::open_standard;
 use crate::page_texts::{DOCUMENT, SCRIPT, STYLE};
@@ -148,6 +149,7 @@ fn serve_site<R>(rt: &R, doors: Doors<()>, site: Site) -> Result<HttpServer, Ser
 where
     R: Alloc<A = Global> + Net + Clock + RandomSource,
     R: Threads + Wait + Sync + Copy + Send + 'static,
+    ensures { IfOk result (ShowsSite doors site) }
 {
     let contents = Content::site(rt.alloc(), site)?;
     let host = Host::alone(rt, rt.alloc(), MEMORY_MIN)?;

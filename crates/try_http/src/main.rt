@@ -1,9 +1,8 @@
 //! `try_http`: HTTP requests on standard input, and on standard output what the face answers.
 //!
 //! The input begins with a key file. Each line `== WORD..` begins a connection, whose requests are
-//! the lines behind it, each ended by CR and LF. The words name sources of facts, calls, `204`, `strict`, `port`, `no-mint` and
-//! `names=NAME,..`.
-//! The moment is the same for all.
+//! the lines behind it, each ended by CR and LF. The words name sources of facts, calls, `204`,
+//! `strict`, `port`, `no-mint` and `names=NAME,..`. The moment is the same for all.
 #![tactic(auto)]
 
 mod connections;

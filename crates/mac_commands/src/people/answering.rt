@@ -214,8 +214,8 @@ fn say_verify_under<'a>(
     )?)
 }
 
-/// Warns on standard error of what is right but seldom meant: caveats of a new token that can hardly
-/// hold, and a key file or a list that others than its owner may use.
+/// Warns on standard error of what is right but seldom meant: caveats of a new token that can
+/// hardly hold, and a key file or a list that others than its owner may use.
 fn warn<R: Alloc<A = Global> + Eprint + Files + Clock>(rt: &R, task: &Task, said: &Said) {
     if said.is_refusal {
         return;

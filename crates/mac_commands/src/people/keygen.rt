@@ -42,8 +42,8 @@ pub(super) enum Change {
     DropFirst,
 }
 
-/// A line of a key file with a new secret, printed or put into a file; or a change of the lines that
-/// a file has.
+/// A line of a key file with a new secret, printed or put into a file; or a change of the lines
+/// that a file has.
 pub(super) fn do_keygen<'a, R>(rt: &R, words: &'a KeygenWords) -> Result<Said, PersonFault<'a>>
 where
     R: Alloc<A = Global> + Files<File = File> + RandomSource,

@@ -8,8 +8,8 @@ use std::sync::Wait;
 use std::time::Clock;
 
 impl Loop {
-    /// Takes in the clients that were handed over: so many between two turns at most, and then it looks
-    /// again. So a flood of newcomers keeps none of its clients from a turn.
+    /// Takes in the clients that were handed over: so many between two turns at most, and then it
+    /// looks again. So a flood of newcomers keeps none of its clients from a turn.
     pub(super) fn take_in_all<R: Wait + Clock, K: Outlook, W: Watch>(
         &mut self,
         rt: &R,

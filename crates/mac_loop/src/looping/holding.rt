@@ -1,5 +1,5 @@
-//! What the clients of a loop hold of the memory that those of all loops have together: before it is
-//! passed nobody is read, and the client that holds most is ended.
+//! What the clients of a loop hold of the memory that those of all loops have together: before it
+//! is passed nobody is read, and the client that holds most is ended.
 
 use crate::looping::Loop;
 use crate::watch::{PlainFault, Watch};
@@ -12,7 +12,8 @@ use std::time::Clock;
 const TURN_ROOM: u64 = 8_388_608;
 
 impl Loop {
-    /// Has the memory that its turn may take, whose clients may hold so much more behind it. Whether there is as much: else nobody is to be read.
+    /// Has the memory that its turn may take, whose clients may hold so much more behind it.
+    /// Whether there is as much: else nobody is to be read.
     pub(super) fn has_room<R: Wait>(&mut self, rt: &R, growth: u64) -> bool {
         let more = if self.roll.has_turn() {
             growth.saturating_add(TURN_ROOM)
@@ -23,8 +24,8 @@ impl Loop {
     }
 
     /// Gives back what a turn hasn't taken, and what those had who have left. Where some loop lacks
-    /// more than clients leave, those here that hold most are ended, as long as they hold much; else
-    /// a loop that lacks memory waits for others.
+    /// more than clients leave, those here that hold most are ended, as long as they hold much;
+    /// else a loop that lacks memory waits for others.
     pub(super) fn settle<R: Wait + Clock, W: Watch>(&mut self, rt: &R, watch: &W) {
         let _ = self.account.settle(rt);
         let mut has_ended = false;

@@ -1,5 +1,5 @@
-//! Clients that make no progress: a loop looks for them from time to time, and ends them. One that is
-//! owed something is looked at again, whether or not an event told of it.
+//! Clients that make no progress: a loop looks for them from time to time, and ends them. One that
+//! is owed something is looked at again, whether or not an event told of it.
 
 use crate::inbox::Loops;
 use crate::looping::Loop;
@@ -23,8 +23,8 @@ const QUIET: u64 = 300;
 const SECOND: u64 = 1_000_000;
 
 impl Loop {
-    /// Ends the clients that have made no progress for as long as they may, and looks again at those
-    /// that are owed something. So an event that was missed delays them, and no more.
+    /// Ends the clients that have made no progress for as long as they may, and looks again at
+    /// those that are owed something. So an event that was missed delays them, and no more.
     pub(super) fn sweep<R: Wait + Clock, W: Watch>(&mut self, rt: &R, loops: &Loops, watch: &W) {
         if self.now.saturating_sub(self.swept) < self.sweep_span() {
             return;

@@ -1,5 +1,5 @@
-//! Clients that give way: where there are as many as there may be, a further one comes in the place of
-//! the one that has rested longest.
+//! Clients that give way: where there are as many as there may be, a further one comes in the place
+//! of the one that has rested longest.
 
 use crate::inbox::Loops;
 use crate::looping::Loop;
@@ -11,8 +11,8 @@ use std::sync::Wait;
 use std::time::Clock;
 
 impl Loop {
-    /// Has another client give way to the newcomer where one is to: of which socket, is decided here,
-    /// by how many there are now. Whether there is room for it: else it is turned away.
+    /// Has another client give way to the newcomer where one is to: of which socket, is decided
+    /// here, by how many there are now. Whether there is room for it: else it is turned away.
     pub(super) fn admit<R: Wait + Clock, W: Watch>(&mut self, rt: &R, watch: &W) -> bool {
         let Some(client) = self.roll.newcomer() else {
             return false;
@@ -31,8 +31,8 @@ impl Loop {
         self.roll.displace(rt, watch, gives_way)
     }
 
-    /// The slot of the client that has rested longest of those that came in at a socket, for one that
-    /// comes in at this one: of its own it has to have rested for long enough.
+    /// The slot of the client that has rested longest of those that came in at a socket, for one
+    /// that comes in at this one: of its own it has to have rested for long enough.
     fn find_stalest(&mut self, socket: Socket, comes: Socket) -> Option<usize> {
         for slot in 0..self.roll.slots().bound() {
             let _ = self.roll.note_rest(slot, self.now);

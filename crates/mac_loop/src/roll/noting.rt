@@ -30,8 +30,8 @@ impl Roll {
         Some(member.note_rest(now))
     }
 
-    /// Notes what the client of a slot waits for after its turn. Whether its poll isn't told yet that
-    /// it waits for room to write, or no longer does.
+    /// Notes what the client of a slot waits for after its turn. Whether its poll isn't told yet
+    /// that it waits for room to write, or no longer does.
     pub fn note_turn(&mut self, slot: usize, now: u64, unsent_max: usize) -> bool {
         let Some(member) = self.connections.get_mut(slot) else {
             return false;
@@ -64,8 +64,8 @@ impl Roll {
         self.backlog.change(before, now);
     }
 
-    /// Gives the client that asked what came of it, if it is still there. How many bytes were unsent
-    /// on it before.
+    /// Gives the client that asked what came of it, if it is still there. How many bytes were
+    /// unsent on it before.
     pub fn take_answer(&mut self, answered: Answered, round: &mut Round) -> Delivered {
         let Answered { asker, answer } = answered;
         let Some(member) = self.connections.get_mut(asker.slot) else {
