@@ -1,5 +1,6 @@
 -- Turns one behind the other, and turns from the begin of a connection.
-use Rattle.std.proofs.Common.{◌≡◌, ℕ, Bool, List, [], ◌++◌, take, Option, Some, None, refl, subst, sym, ap, ◌∙◌, append-nil, append_assoc}
+use Rattle.std.proofs.Common.{◌≡◌, ℕ, ◌+◌, Bool, List, [], ◌++◌, take, length, Option, Some, None, refl, subst, sym, ap, ◌∙◌, append-nil, append_assoc}
+use Rattle.std.specs.Prelude.{filter}
 use Rattle.std.specs.Io.KnownBytes.{Appends, Consumes, Keeps}
 use Rattle.std.specs.List.{AllZip}
 use Rattle.http.specs.declared.request.Request.{Request}
@@ -12,10 +13,8 @@ use Rattle.http_server.specs.History.{History, IsQuiet, IsServed, after_read, af
 use Rattle.http_server.proofs.KnownLemmas.{Appends-kept, Appends-then, Consumes-then}
 use Rattle.http_server.proofs.StreamLemmas.{Calls-none, Calls-then}
 use Rattle.http_server.proofs.Theorems.{always_served}
-use Rattle.mac_board.specs.Follows.{Known}
 use Rattle.mac_http.specs.declared.attending.TheConstants.{CONFIG}
-use Rattle.mac_http.specs.declared.rules.Rules.{Rules}
-use Rattle.mac_http.specs.Faced.{IsFaced, IsRight}
+use Rattle.mac_http.specs.Faced.{FaceState, IsFaced, IsRight, is_noted}
 use Rattle.mac_http.specs.Turn.{AnswersOnce, IsTurn}
 use Rattle.mac_http.proofs.CallLemmas.{right_each}
 
@@ -94,22 +93,23 @@ kept_turn answers u x y s a b same keeps = record {
   config = ap (λ k. config_of k) same;
 }
 
-pub faced_from : {S : Type 0} (answers : S → Request (List ℕ) → Response → S → Type 0) (tells : Bool) (known : S → Known) (rules : S → Rules) (told : S → List (Option ℕ))
-    → ((s : S) (q : Request (List ℕ)) (r : Response) (t : S) → answers s q r t → AnswersOnce tells known rules told s q r t)
+pub faced_from : {S : Type 0} (answers : S → Request (List ℕ) → Response → S → Type 0) (tells : Bool) (state : S → FaceState)
+    → ((s : S) (q : Request (List ℕ)) (r : Response) (t : S) → answers s q r t → AnswersOnce tells state s q r t)
     → (u v x y : Option (List ℕ)) (first last : S) (old new : Connection) → history old ≡ new_history → config_of old ≡ CONFIG
-    → IsTurn answers u v x y first last old new → IsFaced tells (known first) (known last) (rules first) u v x y (told first) (told last)
-faced_from answers tells known rules told each u v x y first last old new fresh config turn =
+    → IsTurn answers u v x y first last old new → IsFaced tells (state first) (state last) u v x y
+faced_from answers tells state each u v x y first last old new fresh config turn =
     let received = turn.read.2 ∙ ap (λ (h : History). h.received ++ turn.read.0) fresh in
     let sent = turn.written.2 ∙ ap (λ (h : History). h.sent ++ turn.written.0) fresh in
     let called = turn.calls.1 ∙ ap (λ (h : History). h.calls ++ turn.calls.0) fresh in
-    let all = right_each answers tells known rules told each turn.calls.0 first last turn.calls.2 in
+    let all = right_each answers tells state each turn.calls.0 first last turn.calls.2 in
     record {
       history = history new;
       read = subst (λ (t : List ℕ). Consumes u v t) (sym received) turn.read.1;
       written = subst (λ (t : List ℕ). Appends x y t) (sym sent) turn.written.1;
       served = subst (λ (k : Config). ∥ IsServed k (history new) ∥₁) (turn.config ∙ config) (always_served new);
-      under = all.0;
-      taken = all.1;
-      told_more = all.2;
-      right = subst (λ (cs : List Call). AllZip (IsRight (rules first)) all.0 cs) (sym called) all.3;
+      under = all.under;
+      taken = all.taken;
+      told = all.told;
+      right = subst (λ (cs : List Call). AllZip (IsRight (state first).rules) all.under cs) (sym called) all.right;
+      noted = subst (λ (cs : List Call). (state last).noted ≡ (state first).noted + length (filter (λ call. is_noted call.0) cs)) (sym called) all.noted;
     }

@@ -119,3 +119,9 @@ NotesOutcome drawn table rules moment asked request response noted =
     (TellsUnlessRefused refused is_post outcome response
     × (noted ≡ outcome_unless_refused refused is_post outcome))
     ⊎ (IsOverloaded response × (noted ≡ None))
+
+-- the same with some random bytes
+abbrev pub NotesCall : Table → Rules → Option ℕ → Call × List ℕ → Request (List ℕ) → Response
+    → Option Outcome → Type 0
+NotesCall table rules moment asked request response noted =
+    (drawn : List ℕ) × NotesOutcome drawn table rules moment asked request response noted

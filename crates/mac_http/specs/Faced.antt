@@ -1,5 +1,5 @@
 -- What a peer is answered, over a reader and a writer that state their bytes.
-use Rattle.std.specs.Prelude.{◌≡◌, ◌⊎◌, ℕ, Bool, List, [], ◌∷◌, ◌++◌, map, codes, Option, Some, None}
+use Rattle.std.specs.Prelude.{◌≡◌, ◌⊎◌, ℕ, ◌+◌, Bool, List, [], ◌∷◌, ◌++◌, map, filter, length, codes, Option, Some, None, is_none}
 use Rattle.std.specs.Io.KnownBytes.{Appends, Consumes}
 use Rattle.std.specs.List.{AllZip}
 use Rattle.http.specs.Request.{head_of}
@@ -58,16 +58,30 @@ abbrev pub IsRight : Rules → Table × Option ℕ → Exchanged → Type 0
 IsRight rules under c = (plain : Response)
     × IsAnswer under.0 rules under.1 c.0 plain × MayClose plain c.1
 
+-- a request is noted unless its path names a page
+abbrev pub is_noted : Request (List ℕ) → Bool
+is_noted request = is_none (page_in (uri_path (head_of request).uri))
+
+-- What is known of a face: of the tables that it looks at, its rules, the moments that its clock told,
+-- and how many requests were noted.
+pub record FaceState : Type 0 where
+  pub known : Known
+  pub rules : Rules
+  pub told : List (Option ℕ)
+  pub noted : ℕ
+
 -- What was written are HTTP's answers to the requests that were read, in order. For each call of
 -- the service there was one look at the tables and one at the clock, and the response is right under
--- the table that was up then and at the moment that was told.
-pub record IsFaced (tells : Bool) (first last : Known) (rules : Rules)
-    (unread left before after : Option (List ℕ)) (told tells_now : List (Option ℕ)) : Type 0 where
+-- the table that was up then and at the moment that was told. As many more are noted as there are
+-- requests whose path names no page.
+pub record IsFaced (tells : Bool) (first last : FaceState)
+    (unread left before after : Option (List ℕ)) : Type 0 where
   pub history : History
   pub read : Consumes unread left history.received
   pub written : Appends before after history.sent
   pub served : ∥ IsServed CONFIG history ∥₁
   pub under : List (Table × Option ℕ)
-  pub taken : Takes tells first last (map (λ u. u.0) under)
-  pub told_more : tells_now ≡ told ++ map (λ u. u.1) under
-  pub right : AllZip (IsRight rules) under history.calls
+  pub taken : Takes tells first.known last.known (map (λ u. u.0) under)
+  pub told : last.told ≡ first.told ++ map (λ u. u.1) under
+  pub right : AllZip (IsRight first.rules) under history.calls
+  pub noted : last.noted ≡ first.noted + length (filter (λ call. is_noted call.0) history.calls)

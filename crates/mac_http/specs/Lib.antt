@@ -5,6 +5,7 @@ pub mod Escaped
 pub mod Faced
 pub mod Facts
 pub mod Found
+pub mod Happened
 pub mod Noted
 pub mod Page
 pub mod Path

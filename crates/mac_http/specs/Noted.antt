@@ -1,10 +1,12 @@
 -- What is noted of a request, for who counts and logs it (this project's own).
-use Rattle.std.specs.Prelude.{◌≡◌, ℕ, Bool, if◌then◌else◌, List, [], codes, Option, Some, None, option_map, Ok}
+use Rattle.std.specs.Prelude.{◌≡◌, ℕ, Bool, if◌then◌else◌, List, [], codes, Option, Some, None, option_map, option_and_then, option_copied, Ok}
 use Rattle.http.specs.declared.request.Parts.{Parts}
 use Rattle.http_header.specs.HeaderMap.{get_all}
 use Rattle.http_uri.specs.Uri.{uri_path}
 use Rattle.mac_calls.specs.declared.call.Call.{Call}
 use Rattle.mac_calls.specs.declared.call.Call.TheVariants as call
+use Rattle.mac_calls.specs.Outcome.{minted_identifier}
+use Rattle.mac_calls.specs.declared.answering.Outcome.{Outcome}
 use Rattle.mac_decide.specs.Answer.{keys_of}
 use Rattle.mac_decide.specs.Minted.{Minted}
 use Rattle.mac_keys.specs.KeyTable.{Table}
@@ -15,9 +17,12 @@ use Rattle.mac_token.specs.Read.{read_of}
 use Rattle.mac_http.specs.declared.authorization.Scheme.{Scheme}
 use Rattle.mac_http.specs.declared.noted.Asks.{Asks}
 use Rattle.mac_http.specs.declared.noted.Asks.TheVariants as asks
+use Rattle.mac_http.specs.declared.noted.Noted.{Noted}
+use Rattle.mac_http.specs.declared.reason.Judged.{Judged}
 use Rattle.mac_http.specs.declared.rules.Rules.{Rules}
 use Rattle.mac_http.specs.Authorization.{credentials_in, only}
 use Rattle.mac_http.specs.Found.{terms_of}
+use Rattle.mac_http.specs.Reason.{reason_of_call}
 use Rattle.mac_http.specs.Target.{target_in}
 
 -- what a call asks for
@@ -59,3 +64,25 @@ pub record IsSignedBy (table : Table) (rules : Rules) (moment : Option ℕ) (hea
   pub token : TokenParts
   pub is_read : read_of bytes ≡ Ok token
   pub minted : Minted (listed keys) token
+
+-- what is noted of a call, of which this came, where the response tells that
+pub record IsNoteOfCall (asked : Call × List ℕ) (outcome : Option Outcome) (head : Parts)
+    (status : ℕ) (noted : Noted) : Type 0 where
+  pub asks : noted.asks ≡ asks_of asked.0
+  pub name : noted.name.now ≡ asked.1
+  pub status : noted.status ≡ status
+  pub minted : option_copied noted.minted ≡ option_and_then minted_identifier outcome
+  pub reason : noted.reason ≡ option_and_then reason_of_call outcome
+  pub id : option_copied noted.id ≡ id_in head
+  pub signed : noted.signed ≡ None
+
+-- what is noted of any other path, of which this came
+pub record IsNoteOfPath (judged : Judged) (head : Parts) (status : ℕ) (noted : Noted)
+    : Type 0 where
+  pub asks : noted.asks ≡ asks.Verify
+  pub name : noted.name.now ≡ name_in (uri_path head.uri)
+  pub status : noted.status ≡ status
+  pub minted : noted.minted ≡ None
+  pub reason : noted.reason ≡ judged.reason
+  pub id : option_copied noted.id ≡ id_in head
+  pub signed : option_copied noted.signed ≡ signed_in judged.is_signed head

@@ -1,15 +1,14 @@
 -- What turns of a connection do.
-use Rattle.std.specs.Prelude.{◌≡◌, ℕ, ◌<◌, ◌⊎◌, Bool, List, [], ◌∷◌, ◌++◌, length, Option}
+use Rattle.std.specs.Prelude.{◌≡◌, ℕ, ◌+◌, ◌<◌, ◌⊎◌, Bool, if◌then◌else◌, List, [], ◌∷◌, ◌++◌, length, Option}
 use Rattle.std.specs.Io.KnownBytes.{Appends, Consumes}
 use Rattle.http.specs.declared.request.Request.{Request}
 use Rattle.http_server.specs.Connection.{config_of, history}
 use Rattle.http_server.specs.Exchange.{Calls}
 use Rattle.http_server.specs.declared.connection.Connection.{Connection}
 use Rattle.http_server.specs.declared.response.Response.{Response}
-use Rattle.mac_board.specs.Follows.{Known, IsUp, Looks}
+use Rattle.mac_board.specs.Follows.{IsUp, Looks}
 use Rattle.mac_keys.specs.KeyTable.{Table}
-use Rattle.mac_http.specs.declared.rules.Rules.{Rules}
-use Rattle.mac_http.specs.Faced.{IsRight}
+use Rattle.mac_http.specs.Faced.{FaceState, IsRight, is_noted}
 
 -- Between the first connection and the second these bytes were read and written, and these calls
 -- were made of the service, which lead it from one state to the other.
@@ -30,11 +29,19 @@ BreaksOff first last old new =
     ((history new ≡ history old) × (last ≡ first))
     ⊎ (((history new).sent ≡ (history old).sent) × (0 < length (history new).pending))
 
--- One call of a service that knows tables, has rules and is told moments: there is one look at the
--- tables and one at the clock, and the response is right under the table and at the moment that
--- they gave.
-abbrev pub AnswersOnce : {S : Type 0} (tells : Bool) (known : S → Known) (rules : S → Rules)
-    (told : S → List (Option ℕ)) → S → Request (List ℕ) → Response → S → Type 0
-AnswersOnce tells known rules told old request response new = (under : Table × Option ℕ)
-    × Looks tells (known old) (known new) × IsUp (known new) under.0 × (rules new ≡ rules old)
-    × (told new ≡ told old ++ under.1 ∷ []) × IsRight (rules old) under (request, response)
+-- how many more are noted by a request
+abbrev pub notes_of : Request (List ℕ) → ℕ
+notes_of request = if is_noted request then 1 else 0
+
+-- One call of a service that is a face: there is one look at the tables and one at the clock, the
+-- response is right under the table and at the moment that they gave, and the request is noted once,
+-- or not at all where its path names a page.
+pub record AnswersOnce {S : Type 0} (tells : Bool) (state : S → FaceState) (old : S)
+    (request : Request (List ℕ)) (response : Response) (new : S) : Type 0 where
+  pub under : Table × Option ℕ
+  pub looks : Looks tells (state old).known (state new).known
+  pub up : IsUp (state new).known under.0
+  pub rules : (state new).rules ≡ (state old).rules
+  pub told : (state new).told ≡ (state old).told ++ under.1 ∷ []
+  pub right : IsRight (state old).rules under (request, response)
+  pub noted : (state new).noted ≡ (state old).noted + notes_of request

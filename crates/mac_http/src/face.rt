@@ -2,13 +2,14 @@
 
 ghost use Rattle.std.specs.Prelude.{◌≡◌};
 ghost use Rattle.http_server.specs.Response.{IsBlank};
-ghost use Rattle.mac_http.specs.Calling.{RespondsToCall};
+ghost use Rattle.mac_http.specs.Calling.{NotesCall, RespondsToCall};
 ghost use Rattle.mac_http.specs.Faced.{IsAnswer, IsPlainAnswer};
+ghost use Rattle.mac_http.specs.Happened.{Happens, HappensPlainly};
 ghost use Rattle.mac_http.specs.Turn.{AnswersOnce};
 
 use crate::calling::{Asked, Called, call_in, respond_to_call};
 use crate::footing::Footing;
-use crate::noted::{note_of_call, note_of_path};
+use crate::happened::Happened;
 use crate::page::{Monitor, announce_close, page_in, tell_page};
 use crate::rules::Rules;
 use crate::saying::respond;
@@ -16,7 +17,7 @@ use bytes::Bytes;
 use http::{Request, StatusCode};
 use http_server::{Response, Service};
 use mac_board::{Moments, Tables};
-use mac_calls::Call;
+use mac_calls::{Call, Outcome};
 use std::alloc::{AllocError, Global};
 
 /// Answers the requests of connections, each under the table that is up and at a moment that its
@@ -53,8 +54,12 @@ impl<'a, K, M, S> Face<'a, K, M, S> {
 }
 
 impl<'a, K: Tables, M: Moments, S: Monitor> Service for Face<'a, K, M, S> {
-    ghost answers = { AnswersOnce K.tells (λ face. K.known face.keys) (λ face. face.rules)
-        (λ face. M.told face.moments) };
+    ghost answers = { AnswersOnce K.tells (λ face. record {
+        known = K.known face.keys;
+        rules = face.rules;
+        told = M.told face.moments;
+        noted = S.noted face.monitor;
+    }) };
 
     fn call(
         &mut self,
@@ -70,7 +75,10 @@ impl<'a, K: Tables, M: Moments, S: Monitor> Service for Face<'a, K, M, S> {
             moment,
             seen: self.monitor.seen(),
         };
-        answer(self.alloc, footing, &self.monitor, request, response);
+        let happened = answer(self.alloc, footing, &self.monitor, request, response);
+        if let Some(noted) = happened.note(request, response) {
+            self.monitor.note(&noted);
+        }
         if self.monitor.is_ending() {
             announce_close(response);
         }
@@ -79,74 +87,81 @@ impl<'a, K: Tables, M: Moments, S: Monitor> Service for Face<'a, K, M, S> {
 }
 
 /// Fills a blank response with a page, or with what comes of the request.
-fn answer<S: Monitor>(
+fn answer<'a, S: Monitor>(
     alloc: Global,
     footing: Footing<'_>,
     monitor: &S,
-    request: &Request<Bytes>,
+    request: &'a Request<Bytes>,
     response: &mut Response,
-)
+) -> Happened<'a>
     requires { IsBlank response.old }
-    ensures { IsAnswer footing.entry.keys.now footing.entry.rules footing.entry.moment
+    ensures told { IsAnswer footing.entry.keys.now footing.entry.rules footing.entry.moment
         request.now response.new }
+    ensures happened { Happens footing.entry.keys.now footing.entry.rules footing.entry.moment
+        request.now response.new result }
 {
     match page_in(request.uri().path().as_bytes()) {
-        Some(page) => tell_page(alloc, footing, monitor, page, response),
+        Some(page) => {
+            tell_page(alloc, footing, monitor, page, response);
+            Happened::Told
+        }
         None => answer_plain(alloc, footing, monitor, request, response),
     }
 }
 
 /// Fills a blank response with what comes of a request that names no page: of a call that is
-/// allowed, or of a verify. Either is noted.
-fn answer_plain<S: Monitor>(
+/// allowed, or of a verify.
+fn answer_plain<'a, S: Monitor>(
     alloc: Global,
     footing: Footing<'_>,
     monitor: &S,
-    request: &Request<Bytes>,
+    request: &'a Request<Bytes>,
     response: &mut Response,
-)
+) -> Happened<'a>
     requires { IsBlank response.old }
-    ensures { IsPlainAnswer footing.entry.keys.now footing.entry.rules footing.entry.moment
+    ensures told { IsPlainAnswer footing.entry.keys.now footing.entry.rules footing.entry.moment
         request.now response.new }
+    ensures happened { HappensPlainly footing.entry.keys.now footing.entry.rules
+        footing.entry.moment request.now response.new result }
 {
     match call_in(
         footing.rules.allowed_calls(),
         request.uri().path().as_bytes(),
     ) {
-        Some(asked) => answer_call(alloc, footing, monitor, asked, request, response),
-        None => {
-            let judged = respond(alloc, footing, request, response);
-            monitor.note(&note_of_path(request, judged, response));
+        Some(asked) => {
+            let outcome = answer_call(alloc, footing, monitor, asked, request, response);
+            Happened::Called(asked, outcome)
         }
+        None => Happened::Judged(respond(alloc, footing, request, response)),
     }
 }
 
-/// Fills a blank response with what comes of a call, and notes that. Where a mint gets no random bytes
-/// it is a 503 without fields.
-fn answer_call<'a, S: Monitor>(
+/// Fills a blank response with what comes of a call. Where a mint gets no random bytes it is a 503
+/// without fields. What came of the call, where the response tells that.
+fn answer_call<S: Monitor>(
     alloc: Global,
     footing: Footing<'_>,
     monitor: &S,
-    asked: Asked<'a>,
-    request: &'a Request<Bytes>,
+    asked: Asked<'_>,
+    request: &Request<Bytes>,
     response: &mut Response,
-)
+) -> Option<Outcome>
     requires { IsBlank response.old }
-    ensures { RespondsToCall footing.entry.keys.now footing.entry.rules footing.entry.moment
+    ensures told { RespondsToCall footing.entry.keys.now footing.entry.rules footing.entry.moment
         (asked.entry.call, asked.entry.name.now) request.now response.new }
+    ensures noted { NotesCall footing.entry.keys.now footing.entry.rules footing.entry.moment
+        (asked.entry.call, asked.entry.name.now) request.now response.new result }
 {
     let Some(drawn) = drawn_for(monitor, asked.call) else {
         response.status = StatusCode::SERVICE_UNAVAILABLE;
-        monitor.note(&note_of_call(asked, request, None, response));
-        return;
+        return None;
     };
     let called = Called {
         asked,
         request,
         drawn: &drawn,
     };
-    let outcome = respond_to_call(alloc, footing, called, response);
-    monitor.note(&note_of_call(asked, request, outcome.as_ref(), response));
+    respond_to_call(alloc, footing, called, response)
 }
 
 /// Random bytes for a call: a mint alone takes any.

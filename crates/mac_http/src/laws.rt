@@ -13,7 +13,6 @@ ghost use Rattle.http_server.specs.declared.response.Response.{Response};
 ghost use Rattle.http_server.specs.History.{new_history};
 ghost use Rattle.http_server.specs.Response.{IsResponse, fields_of};
 ghost use Rattle.http_uri.specs.Uri.{uri_path};
-ghost use Rattle.mac_board.specs.Follows.{Known};
 ghost use Rattle.mac_calls.specs.Counted.{are_few};
 ghost use Rattle.mac_decide.specs.Reading.{verdict_of};
 ghost use Rattle.mac_decide.specs.Answer.{keys_of};
@@ -34,7 +33,7 @@ ghost use Rattle.mac_calls.specs.declared.call.Call.{Call};
 ghost use Rattle.mac_http.specs.Browsing.{is_of_page};
 ghost use Rattle.mac_http.specs.Calling.{RespondsToCall};
 ghost use Rattle.mac_http.specs.Escaped.{escaped};
-ghost use Rattle.mac_http.specs.Faced.{IsAnswer, IsFaced};
+ghost use Rattle.mac_http.specs.Faced.{FaceState, IsAnswer, IsFaced};
 ghost use Rattle.mac_http.specs.Facts.{facts_of, tells_fragment, tells_unsafe};
 ghost use Rattle.mac_http.specs.Found.{found_of, found_with, context_of, IsGrantedBy, IsHeld};
 ghost use Rattle.mac_http.specs.Noted.{IsSignedBy, signed_in};
@@ -177,18 +176,17 @@ pub fn turns_compose<S: Service>()
         → IsTurn S.answers unread left before after first last old new }
 {}
 
-/// A service that answers each request by one look at its tables and at one moment of its clock, as
-/// a [`Face`](crate::Face) does, has written to a connection, from its begin to the end of each of its
-/// turns, the responses to its requests, in order, each right under its table and at its moment.
+/// A service that answers each request by one look at its tables and at one moment of its clock, and
+/// notes it once unless it is for a page, as a [`Face`](crate::Face) does, has written to a
+/// connection, from its begin to the end of each of its turns, the responses to its requests, in
+/// order, each right under its table and at its moment. As many were noted as are for no page.
 pub fn turns_are_faced<S: Service>()
-    ensures { (tells : Bool) (known : S → Known) (rules : S → PlainRules)
-        (told : S → List (Option ℕ))
+    ensures { (tells : Bool) (state : S → FaceState)
         → ((one : S) (request : PlainRequest (List ℕ)) (response : Response) (other : S)
         → S.answers one request response other
-        → AnswersOnce tells known rules told one request response other)
+        → AnswersOnce tells state one request response other)
         → (unread left before after : Option (List ℕ)) (first last : S) (old new : Connection)
         → history old ≡ new_history → config_of old ≡ CONFIG
         → IsTurn S.answers unread left before after first last old new
-        → IsFaced tells (known first) (known last) (rules first) unread left before after
-        (told first) (told last) }
+        → IsFaced tells (state first) (state last) unread left before after }
 {}

@@ -18,6 +18,7 @@ mod face;
 mod facts;
 mod finding;
 mod footing;
+mod happened;
 pub mod laws;
 mod noted;
 mod page;

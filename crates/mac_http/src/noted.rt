@@ -1,11 +1,8 @@
 //! What a request is noted as, for who counts and logs requests.
 
-ghost use Rattle.std.specs.Prelude.{◌≡◌, option_and_then, option_copied};
+ghost use Rattle.std.specs.Prelude.{◌≡◌, option_copied};
 ghost use Rattle.http.specs.Request.{head_of};
-ghost use Rattle.mac_calls.specs.Outcome.{minted_identifier};
-ghost use Rattle.http_uri.specs.Uri.{uri_path};
-ghost use Rattle.mac_http.specs.Noted.{asks_of, id_in, name_in, signed_in};
-ghost use Rattle.mac_http.specs.Reason.{reason_of_call};
+ghost use Rattle.mac_http.specs.Noted.{IsNoteOfCall, IsNoteOfPath, id_in, signed_in};
 
 use crate::authorization::credentials_in;
 use crate::browsing::only_value;
@@ -61,14 +58,8 @@ pub(crate) fn note_of_call<'a>(
     outcome: Option<&'a Outcome>,
     response: &Response,
 ) -> Noted<'a>
-    ensures asks { result.asks ≡ asks_of asked.entry.call }
-    ensures name { result.name.now ≡ asked.entry.name.now }
-    ensures status { result.status ≡ response.now.status }
-    ensures minted { option_copied result.minted
-        ≡ option_and_then minted_identifier (option_copied outcome.entry) }
-    ensures reason { result.reason ≡ option_and_then reason_of_call (option_copied outcome.entry) }
-    ensures id { option_copied result.id ≡ id_in (head_of request.now) }
-    ensures signed { result.signed ≡ None }
+    ensures { IsNoteOfCall (asked.entry.call, asked.entry.name.now) (option_copied outcome.entry)
+        (head_of request.now) response.now.status result }
 {
     let asks = match asked.call {
         Call::Mint => Asks::Mint,
@@ -99,14 +90,7 @@ pub(crate) fn note_of_path<'a>(
     judged: Judged,
     response: &Response,
 ) -> Noted<'a>
-    ensures asks { result.asks ≡ Asks.Verify }
-    ensures name { result.name.now ≡ name_in (uri_path (head_of request.now).uri) }
-    ensures status { result.status ≡ response.now.status }
-    ensures minted { result.minted ≡ None }
-    ensures reason { result.reason ≡ judged.reason }
-    ensures id { option_copied result.id ≡ id_in (head_of request.now) }
-    ensures signed { option_copied result.signed
-        ≡ signed_in judged.is_signed (head_of request.now) }
+    ensures { IsNoteOfPath judged (head_of request.now) response.now.status result }
 {
     let name: &[u8] = match target_in(request.uri().path().as_bytes()) {
         Some(target) => target.name,

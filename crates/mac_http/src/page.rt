@@ -1,6 +1,7 @@
 //! The pages that tell of the daemon itself.
 
-ghost use Rattle.std.specs.Prelude.{◌≡◌, ◌++◌, ℕ, IfOk, List, Ok, OnOk, Option, option_copied};
+ghost use Rattle.std.specs.Prelude.{◌≡◌, ◌+◌, ◌++◌, ℕ, IfOk, List, Ok, OnOk, Option};
+ghost use Rattle.std.specs.Prelude.{option_copied};
 ghost use Rattle.http_server.specs.Response.{IsBlank, IsResponse};
 ghost use Rattle.mac_http.specs.Faced.{MayClose};
 ghost use Rattle.mac_http.specs.Page.{IsText, Shows, ShowsIf, TellsPage, has_page, is_text};
@@ -60,6 +61,9 @@ pub trait Monitor: Draws {
     /// What it may say on a page that may tell of these keys: a text, and whether the daemon is well.
     ghost says: { Self → PlainPage → Option Table → List ℕ → PlainTold → Type 0 };
 
+    /// How many requests were noted so far.
+    ghost noted: { Self → ℕ };
+
     /// Whether its connections are to end.
     fn is_ending(&self) -> bool;
 
@@ -79,7 +83,8 @@ pub trait Monitor: Draws {
         ensures unwell { result ≡ Ok Told.Unwell → page ≡ Page.Health };
 
     /// A request for anything but a page was answered.
-    fn note(&self, noted: &Noted<'_>);
+    fn note(&mut self, noted: &Noted<'_>)
+        ensures counted { noted self.new ≡ noted self.old + 1 };
 }
 
 /// The page that a path names.

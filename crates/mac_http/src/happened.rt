@@ -1,0 +1,42 @@
+//! What happened where a request was answered, and what is noted of that.
+
+ghost use Rattle.http.specs.Request.{head_of};
+ghost use Rattle.mac_http.specs.Happened.{IsNoteOf};
+
+use crate::calling::Asked;
+use crate::noted::{Noted, note_of_call, note_of_path};
+use crate::reason::Judged;
+use bytes::Bytes;
+use http::Request;
+use http_server::Response;
+use mac_calls::Outcome;
+
+/// What happened where a request was answered.
+#[derive(Drop)]
+pub(crate) enum Happened<'a> {
+    /// A page was told.
+    Told,
+    /// A call was answered, of which this came, where the response tells that.
+    Called(Asked<'a>, Option<Outcome>),
+    /// A path was judged.
+    Judged(Judged),
+}
+
+impl Happened<'_> {
+    /// What is noted of it, which is nothing of a page.
+    pub(crate) fn note<'b>(
+        &'b self,
+        request: &'b Request<Bytes>,
+        response: &Response,
+    ) -> Option<Noted<'b>>
+        ensures { IsNoteOf self.now (head_of request.now) response.now.status result }
+    {
+        match self {
+            Happened::Told => None,
+            Happened::Called(asked, outcome) => {
+                Some(note_of_call(*asked, request, outcome.as_ref(), response))
+            }
+            Happened::Judged(judged) => Some(note_of_path(request, *judged, response)),
+        }
+    }
+}
