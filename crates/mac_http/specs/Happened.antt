@@ -1,5 +1,5 @@
 -- What happened where a request was answered, and what is noted of that (this project's own).
-use Rattle.std.specs.Prelude.{◌≡◌, ℕ, ⊥, List, Option, Some, None, IsSomeAnd}
+use Rattle.std.specs.Prelude.{◌≡◌, ℕ, List, Option, Some, None, IsSomeAnd}
 use Rattle.http.specs.Request.{head_of}
 use Rattle.http.specs.declared.request.Parts.{Parts}
 use Rattle.http.specs.declared.request.Request.{Request}

@@ -67,21 +67,21 @@ pub record IsSignedBy (table : Table) (rules : Rules) (moment : Option ℕ) (hea
 
 -- what is noted of a call, of which this came, where the response tells that
 pub record IsNoteOfCall (asked : Call × List ℕ) (outcome : Option Outcome) (head : Parts)
-    (status : ℕ) (noted : Noted) : Type 0 where
+    (answered : ℕ) (noted : Noted) : Type 0 where
   pub asks : noted.asks ≡ asks_of asked.0
   pub name : noted.name.now ≡ asked.1
-  pub status : noted.status ≡ status
+  pub status : noted.status ≡ answered
   pub minted : option_copied noted.minted ≡ option_and_then minted_identifier outcome
   pub reason : noted.reason ≡ option_and_then reason_of_call outcome
   pub id : option_copied noted.id ≡ id_in head
   pub signed : noted.signed ≡ None
 
 -- what is noted of any other path, of which this came
-pub record IsNoteOfPath (judged : Judged) (head : Parts) (status : ℕ) (noted : Noted)
+pub record IsNoteOfPath (judged : Judged) (head : Parts) (answered : ℕ) (noted : Noted)
     : Type 0 where
   pub asks : noted.asks ≡ asks.Verify
   pub name : noted.name.now ≡ name_in (uri_path head.uri)
-  pub status : noted.status ≡ status
+  pub status : noted.status ≡ answered
   pub minted : noted.minted ≡ None
   pub reason : noted.reason ≡ judged.reason
   pub id : option_copied noted.id ≡ id_in head
