@@ -83,7 +83,7 @@ pub trait Monitor: Draws {
         ensures unwell { result ≡ Ok Told.Unwell → page ≡ Page.Health };
 
     /// A request for anything but a page was answered.
-    fn note(&mut self, noted: &Noted<'_>)
+    fn note(&mut self, request: &Noted<'_>)
         ensures counted { noted self.new ≡ noted self.old + 1 };
 }
 
