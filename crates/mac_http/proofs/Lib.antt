@@ -5,5 +5,6 @@ pub mod SignedLemmas
 pub mod ListLemmas
 pub mod MintLemmas
 pub mod NameLemmas
+pub mod NotingLemmas
 pub mod PathLemmas
 pub mod TurnLemmas

@@ -54,3 +54,9 @@ IsNoteOf Told head status noted = noted ≡ None
 IsNoteOf (Called asked outcome) head status noted =
     IsSomeAnd noted (IsNoteOfCall (asked.call, asked.name.now) outcome head status)
 IsNoteOf (Judged judged) head status noted = IsSomeAnd noted (IsNoteOfPath judged head status)
+
+-- how many notes are made of what happened: one, but none of a page
+abbrev pub notes_in : Happened → ℕ
+notes_in Told = 0
+notes_in (Called asked outcome) = 1
+notes_in (Judged judged) = 1

@@ -76,9 +76,7 @@ impl<'a, K: Tables, M: Moments, S: Monitor> Service for Face<'a, K, M, S> {
             seen: self.monitor.seen(),
         };
         let happened = answer(self.alloc, footing, &self.monitor, request, response);
-        if let Some(noted) = happened.note(request, response) {
-            self.monitor.note(&noted);
-        }
+        happened.tell(&mut self.monitor, request, response);
         if self.monitor.is_ending() {
             announce_close(response);
         }

@@ -1,10 +1,12 @@
 //! What happened where a request was answered, and what is noted of that.
 
+ghost use Rattle.std.specs.Prelude.{◌≡◌, ◌+◌};
 ghost use Rattle.http.specs.Request.{head_of};
-ghost use Rattle.mac_http.specs.Happened.{IsNoteOf};
+ghost use Rattle.mac_http.specs.Happened.{IsNoteOf, notes_in};
 
 use crate::calling::Asked;
 use crate::noted::{Noted, note_of_call, note_of_path};
+use crate::page::Monitor;
 use crate::reason::Judged;
 use bytes::Bytes;
 use http::Request;
@@ -23,8 +25,22 @@ pub(crate) enum Happened<'a> {
 }
 
 impl Happened<'_> {
+    /// Tells a monitor of it, where anything is noted of it.
+    pub(crate) fn tell<S: Monitor>(
+        &self,
+        monitor: &mut S,
+        request: &Request<Bytes>,
+        response: &Response,
+    )
+        ensures { S.noted monitor.new ≡ S.noted monitor.old + notes_in self.now }
+    {
+        if let Some(noted) = self.note(request, response) {
+            monitor.note(&noted);
+        }
+    }
+
     /// What is noted of it, which is nothing of a page.
-    pub(crate) fn note<'b>(
+    fn note<'b>(
         &'b self,
         request: &'b Request<Bytes>,
         response: &Response,
