@@ -1,6 +1,6 @@
 -- Calls that are right, each under a table that was looked up and at a moment that the clock told.
 use Rattle.std.proofs.Common.{◌≡◌, ℕ, ◌+◌, Bool, true, false, List, [], ◌∷◌, ◌++◌, map, length, Option, subst, sym, ap, ◌∙◌, append-nil, append_assoc, add-zero, arith}
-use Rattle.std.specs.Prelude.{filter, if◌then◌else◌}
+use Rattle.std.specs.Prelude.{cond, filter, if◌then◌else◌}
 use Rattle.std.specs.List.{AllZip}
 use Rattle.http.specs.declared.request.Request.{Request}
 use Rattle.http_server.specs.declared.response.Response.{Response}
@@ -18,9 +18,10 @@ pub record SaysAll (tells : Bool) (old : FaceState) (calls : List Call) (new : F
   pub right : AllZip (IsRight old.rules) under calls
   pub noted : new.noted ≡ old.noted + length (filter (λ call. is_noted call.0) calls)
 
--- a number of some, and of one before them
-count_more : (p : Call → Bool) (c : Call) (calls : List Call) (a b d : ℕ) → b ≡ a + (if p c then 1 else 0) → d ≡ b + length (filter p calls) → d ≡ a + length (filter p (c ∷ calls))
-count_more p c calls a b d one rest = elim p c as [true ↦ omega (arith, one, rest) | false ↦ omega (arith, one, rest)]
+-- one more is counted where it is kept
+count_more : (is : Bool) (c : Call) (kept : List Call) (a b d : ℕ) → b ≡ a + (if is then 1 else 0) → d ≡ b + length kept → d ≡ a + length (cond is (c ∷ kept) kept)
+count_more true c kept a b d one rest = omega (arith, one, rest)
+count_more false c kept a b d one rest = omega (arith, one, rest)
 
 pub right_each : {S : Type 0} (answers : S → Request (List ℕ) → Response → S → Type 0) (tells : Bool) (state : S → FaceState)
     → ((s : S) (q : Request (List ℕ)) (r : Response) (t : S) → answers s q r t → AnswersOnce tells state s q r t)
@@ -40,5 +41,5 @@ right_each answers tells state each (c ∷ calls) old new x =
       told = rest.told ∙ ap (λ l. l ++ map (λ (u : Table × Option ℕ). u.1) rest.under) one.told
           ∙ append_assoc (state old).told (one.under.1 ∷ []) (map (λ (u : Table × Option ℕ). u.1) rest.under);
       right = (one.right, subst (λ r. AllZip (IsRight r) rest.under calls) one.rules rest.right);
-      noted = count_more (λ call. is_noted call.0) c calls (state old).noted (state x.0).noted (state new).noted one.noted rest.noted;
+      noted = count_more (is_noted c.0) c (filter (λ call. is_noted call.0) calls) (state old).noted (state x.0).noted (state new).noted one.noted rest.noted;
     }
