@@ -1,14 +1,15 @@
 -- Calls that are right, each under a table that was looked up and at a moment that the clock told.
-use Rattle.std.proofs.Common.{◌≡◌, ℕ, ◌+◌, Bool, true, false, List, [], ◌∷◌, ◌++◌, map, length, Option, subst, sym, ap, ◌∙◌, append-nil, append_assoc, add-zero, arith}
-use Rattle.std.specs.Prelude.{cond, filter, if◌then◌else◌}
+use Rattle.std.proofs.Common.{◌≡◌, ℕ, ◌+◌, Bool, List, [], ◌∷◌, ◌++◌, map, Option, subst, sym, ap, ◌∙◌, append-nil, append_assoc, add-zero, arith}
+use Rattle.std.specs.Prelude.{count_by}
 use Rattle.std.specs.List.{AllZip}
+use Rattle.std.proofs.lemmas.List.Sums.{sum_by-cons}
 use Rattle.http.specs.declared.request.Request.{Request}
 use Rattle.http_server.specs.declared.response.Response.{Response}
 use Rattle.http_server.specs.Exchange.{Call, Chain}
 use Rattle.mac_board.specs.Follows.{Takes}
 use Rattle.mac_keys.specs.KeyTable.{Table}
 use Rattle.mac_http.specs.Faced.{FaceState, IsRight, is_noted}
-use Rattle.mac_http.specs.Turn.{AnswersOnce}
+use Rattle.mac_http.specs.Turn.{AnswersOnce, notes_of}
 
 -- what some calls say of the service before and after them
 pub record SaysAll (tells : Bool) (old : FaceState) (calls : List Call) (new : FaceState) : Type 0 where
@@ -16,12 +17,11 @@ pub record SaysAll (tells : Bool) (old : FaceState) (calls : List Call) (new : F
   pub taken : Takes tells old.known new.known (map (λ u. u.0) under)
   pub told : new.told ≡ old.told ++ map (λ u. u.1) under
   pub right : AllZip (IsRight old.rules) under calls
-  pub noted : new.noted ≡ old.noted + length (filter (λ call. is_noted call.0) calls)
+  pub noted : new.noted ≡ old.noted + count_by (λ call. is_noted call.0) calls
 
--- one more is counted where it is kept
-count_more : (is : Bool) (c : Call) (kept : List Call) (a b d : ℕ) → b ≡ a + (if is then 1 else 0) → d ≡ b + length kept → d ≡ a + length (cond is (c ∷ kept) kept)
-count_more true c kept a b d one rest = omega (arith, one, rest)
-count_more false c kept a b d one rest = omega (arith, one, rest)
+-- a call and those behind it
+count_more : (c : Call) (calls : List Call) → count_by (λ (d : Call). is_noted d.0) (c ∷ calls) ≡ notes_of c.0 + count_by (λ (d : Call). is_noted d.0) calls
+count_more c calls = sum_by-cons (λ (d : Call). notes_of d.0) c calls
 
 pub right_each : {S : Type 0} (answers : S → Request (List ℕ) → Response → S → Type 0) (tells : Bool) (state : S → FaceState)
     → ((s : S) (q : Request (List ℕ)) (r : Response) (t : S) → answers s q r t → AnswersOnce tells state s q r t)
@@ -41,5 +41,5 @@ right_each answers tells state each (c ∷ calls) old new x =
       told = rest.told ∙ ap (λ l. l ++ map (λ (u : Table × Option ℕ). u.1) rest.under) one.told
           ∙ append_assoc (state old).told (one.under.1 ∷ []) (map (λ (u : Table × Option ℕ). u.1) rest.under);
       right = (one.right, subst (λ r. AllZip (IsRight r) rest.under calls) one.rules rest.right);
-      noted = count_more (is_noted c.0) c (filter (λ call. is_noted call.0) calls) (state old).noted (state x.0).noted (state new).noted one.noted rest.noted;
+      noted = omega (arith, one.noted, rest.noted, count_more c calls);
     }

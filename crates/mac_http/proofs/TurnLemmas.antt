@@ -1,6 +1,6 @@
 -- Turns one behind the other, and turns from the begin of a connection.
-use Rattle.std.proofs.Common.{◌≡◌, ℕ, ◌+◌, Bool, List, [], ◌++◌, take, length, Option, Some, None, refl, subst, sym, ap, ◌∙◌, append-nil, append_assoc}
-use Rattle.std.specs.Prelude.{filter}
+use Rattle.std.proofs.Common.{◌≡◌, ℕ, ◌+◌, Bool, List, [], ◌++◌, take, Option, Some, None, refl, subst, sym, ap, ◌∙◌, append-nil, append_assoc}
+use Rattle.std.specs.Prelude.{count_by}
 use Rattle.std.specs.Io.KnownBytes.{Appends, Consumes, Keeps}
 use Rattle.std.specs.List.{AllZip}
 use Rattle.http.specs.declared.request.Request.{Request}
@@ -111,5 +111,5 @@ faced_from answers tells state each u v x y first last old new fresh config turn
       taken = all.taken;
       told = all.told;
       right = subst (λ (cs : List Call). AllZip (IsRight (state first).rules) all.under cs) (sym called) all.right;
-      noted = subst (λ (cs : List Call). (state last).noted ≡ (state first).noted + length (filter (λ call. is_noted call.0) cs)) (sym called) all.noted;
+      noted = subst (λ (cs : List Call). (state last).noted ≡ (state first).noted + count_by (λ call. is_noted call.0) cs) (sym called) all.noted;
     }

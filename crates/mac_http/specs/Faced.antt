@@ -1,5 +1,5 @@
 -- What a peer is answered, over a reader and a writer that state their bytes.
-use Rattle.std.specs.Prelude.{◌≡◌, ◌⊎◌, ℕ, ◌+◌, Bool, List, [], ◌∷◌, ◌++◌, map, filter, length, codes, Option, Some, None, is_none}
+use Rattle.std.specs.Prelude.{◌≡◌, ◌⊎◌, ℕ, ◌+◌, Bool, List, [], ◌∷◌, ◌++◌, map, count_by, codes, Option, Some, None, is_none}
 use Rattle.std.specs.Io.KnownBytes.{Appends, Consumes}
 use Rattle.std.specs.List.{AllZip}
 use Rattle.http.specs.Request.{head_of}
@@ -84,4 +84,4 @@ pub record IsFaced (tells : Bool) (first last : FaceState)
   pub taken : Takes tells first.known last.known (map (λ u. u.0) under)
   pub told : last.told ≡ first.told ++ map (λ u. u.1) under
   pub right : AllZip (IsRight first.rules) under history.calls
-  pub noted : last.noted ≡ first.noted + length (filter (λ call. is_noted call.0) history.calls)
+  pub noted : last.noted ≡ first.noted + count_by (λ call. is_noted call.0) history.calls
