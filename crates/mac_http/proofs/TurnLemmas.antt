@@ -15,7 +15,7 @@ use Rattle.http_server.proofs.StreamLemmas.{Calls-none, Calls-then}
 use Rattle.http_server.proofs.Theorems.{always_served}
 use Rattle.mac_http.specs.declared.attending.TheConstants.{CONFIG}
 use Rattle.mac_http.specs.Faced.{FaceState, IsFaced, IsRight, is_noted}
-use Rattle.mac_http.specs.Turn.{AnswersOnce, IsTurn}
+use Rattle.mac_http.specs.Turn.{AnswersOnce, IsTurn, NotesCalls}
 use Rattle.mac_http.proofs.CallLemmas.{right_each}
 
 pub turn_then : {S : Type 0} (answers : S → Request (List ℕ) → Response → S → Type 0) (u v w x y z : Option (List ℕ)) (r s t : S) (a b c : Connection)
@@ -113,3 +113,11 @@ faced_from answers tells state each u v x y first last old new fresh config turn
       right = subst (λ (cs : List Call). AllZip (IsRight (state first).rules) all.under cs) (sym called) all.right;
       noted = subst (λ (cs : List Call). (state last).noted ≡ (state first).noted + count_by (λ call. is_noted call.0) cs) (sym called) all.noted;
     }
+
+pub noted_in : {S : Type 0} (answers : S → Request (List ℕ) → Response → S → Type 0) (tells : Bool) (state : S → FaceState)
+    → ((s : S) (q : Request (List ℕ)) (r : Response) (t : S) → answers s q r t → AnswersOnce tells state s q r t)
+    → (u v x y : Option (List ℕ)) (first last : S) (old new : Connection)
+    → IsTurn answers u v x y first last old new → NotesCalls (state first).noted (state last).noted (history old).calls (history new).calls
+noted_in answers tells state each u v x y first last old new turn =
+    let all = right_each answers tells state each turn.calls.0 first last turn.calls.2 in
+    (turn.calls.0, turn.calls.1, all.noted)

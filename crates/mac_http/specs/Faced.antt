@@ -62,8 +62,8 @@ IsRight rules under c = (plain : Response)
 abbrev pub is_noted : Request (List ℕ) → Bool
 is_noted request = is_none (page_in (uri_path (head_of request).uri))
 
--- What is known of a face: of the tables that it looks at, its rules, the moments that its clock told,
--- and how many requests were noted.
+-- What is known of a face: of the tables that it looks at, its rules, the moments that its clock
+-- told, and how many requests were noted.
 pub record FaceState : Type 0 where
   pub known : Known
   pub rules : Rules

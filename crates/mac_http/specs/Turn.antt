@@ -1,9 +1,9 @@
 -- What turns of a connection do.
-use Rattle.std.specs.Prelude.{◌≡◌, ℕ, ◌+◌, ◌<◌, ◌⊎◌, Bool, if◌then◌else◌, List, [], ◌∷◌, ◌++◌, length, Option}
+use Rattle.std.specs.Prelude.{◌≡◌, ℕ, ◌+◌, ◌<◌, ◌⊎◌, Bool, if◌then◌else◌, List, [], ◌∷◌, ◌++◌, length, count_by, Option}
 use Rattle.std.specs.Io.KnownBytes.{Appends, Consumes}
 use Rattle.http.specs.declared.request.Request.{Request}
 use Rattle.http_server.specs.Connection.{config_of, history}
-use Rattle.http_server.specs.Exchange.{Calls}
+use Rattle.http_server.specs.Exchange.{Call, Calls}
 use Rattle.http_server.specs.declared.connection.Connection.{Connection}
 use Rattle.http_server.specs.declared.response.Response.{Response}
 use Rattle.mac_board.specs.Follows.{IsUp, Looks}
@@ -45,3 +45,9 @@ pub record AnswersOnce {S : Type 0} (tells : Bool) (state : S → FaceState) (ol
   pub told : (state new).told ≡ (state old).told ++ under.1 ∷ []
   pub right : IsRight (state old).rules under (request, response)
   pub noted : (state new).noted ≡ (state old).noted + notes_of request
+
+-- as many more were noted as there are requests whose path names no page among the calls that came
+-- to those before
+abbrev pub NotesCalls : (first last : ℕ) (before after : List Call) → Type 0
+NotesCalls first last before after = (calls : List Call) × (after ≡ before ++ calls)
+    × (last ≡ first + count_by (λ call. is_noted call.0) calls)

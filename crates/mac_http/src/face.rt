@@ -76,7 +76,7 @@ impl<'a, K: Tables, M: Moments, S: Monitor> Service for Face<'a, K, M, S> {
             seen: self.monitor.seen(),
         };
         let happened = answer(self.alloc, footing, &self.monitor, request, response);
-        happened.tell(&mut self.monitor, request, response);
+        happened.note_to(&mut self.monitor, request, response);
         if self.monitor.is_ending() {
             announce_close(response);
         }

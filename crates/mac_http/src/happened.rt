@@ -25,8 +25,8 @@ pub(crate) enum Happened<'a> {
 }
 
 impl Happened<'_> {
-    /// Tells a monitor of it, where anything is noted of it.
-    pub(crate) fn tell<S: Monitor>(
+    /// Notes it, unless a page was told.
+    pub(crate) fn note_to<S: Monitor>(
         &self,
         monitor: &mut S,
         request: &Request<Bytes>,

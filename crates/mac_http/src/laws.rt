@@ -41,7 +41,7 @@ ghost use Rattle.mac_http.specs.Reason.{is_signed};
 ghost use Rattle.mac_http.specs.Target.{target_in};
 ghost use Rattle.mac_http.specs.Path.{steps, IsStep};
 ghost use Rattle.mac_http.specs.Saying.{AreToldAlike, IsOverloaded, Tells};
-ghost use Rattle.mac_http.specs.Turn.{AnswersOnce, IsTurn};
+ghost use Rattle.mac_http.specs.Turn.{AnswersOnce, IsTurn, NotesCalls};
 
 use crate::finding::Finding;
 use crate::rules::Way;
@@ -189,4 +189,16 @@ pub fn turns_are_faced<S: Service>()
         → history old ≡ new_history → config_of old ≡ CONFIG
         → IsTurn S.answers unread left before after first last old new
         → IsFaced tells (state first) (state last) unread left before after }
+{}
+
+/// Over a turn such a service notes as many requests as it answers, but for those for a page.
+pub fn turns_are_noted<S: Service>()
+    ensures { (tells : Bool) (state : S → FaceState)
+        → ((one : S) (request : PlainRequest (List ℕ)) (response : Response) (other : S)
+        → S.answers one request response other
+        → AnswersOnce tells state one request response other)
+        → (unread left before after : Option (List ℕ)) (first last : S) (old new : Connection)
+        → IsTurn S.answers unread left before after first last old new
+        → NotesCalls (state first).noted (state last).noted (history old).calls
+        (history new).calls }
 {}

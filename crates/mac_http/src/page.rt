@@ -84,7 +84,7 @@ pub trait Monitor: Draws {
 
     /// A request for anything but a page was answered.
     fn note(&mut self, request: &Noted<'_>)
-        ensures counted { noted self.new ≡ noted self.old + 1 };
+        ensures { noted self.new ≡ noted self.old + 1 };
 }
 
 /// The page that a path names.

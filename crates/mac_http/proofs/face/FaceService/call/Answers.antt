@@ -27,5 +27,5 @@ returns-clause-ok g c =
       rules = refl {a = face.rules};
       told = c.tell-moment.ensures;
       right = (plain, c.answer-happened.ensures.told, closed);
-      noted = c.tell.ensures ∙ ap (λ (n : ℕ). g.S.Monitor.noted face.monitor + n) counted;
+      noted = c.note_to.ensures ∙ ap (λ (n : ℕ). g.S.Monitor.noted face.monitor + n) counted;
     }
