@@ -14,6 +14,7 @@ use http_server::Connection;
 use mac_board::{Follower, Tables};
 use mac_http::{Face, Way, take_turn};
 use mac_keys::KeyTable;
+use mac_mail::History;
 use mac_page::{PageFace, Site};
 use mac_system::SystemMoments;
 use std::alloc::Global;
@@ -105,6 +106,7 @@ impl<'a, R: Wait + Clock + RandomSource> Answering<'a, R> {
             server: self.server,
             version: own.terms.version,
             since: self.since,
+            noted: History::new(),
         };
         let rules = own.terms.rules(&own.rights, way);
         let moments = SystemMoments::new(self.rt);

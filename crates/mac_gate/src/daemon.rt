@@ -16,6 +16,7 @@ use mac_decide::SeenTokens;
 use mac_host::{Host, microseconds};
 use mac_http::{Monitor, Noted, Page, Told};
 use mac_keys::KeyTable;
+use mac_mail::History;
 use std::alloc::{AllocError, Global};
 use std::random::RandomSource;
 use std::sync::Wait;
@@ -31,6 +32,8 @@ pub struct OwnDaemon<'a, R> {
     pub version: &'static str,
     /// Since when what is answered now has been there, in microseconds.
     pub since: u64,
+    /// An entry for each request that was noted.
+    pub noted: History<()>,
 }
 
 impl<'a, R: Wait + Clock> OwnDaemon<'a, R> {
@@ -92,6 +95,14 @@ impl<'a, R: Wait + Clock> OwnDaemon<'a, R> {
         Ok(Told::Well)
     }
 
+    /// Counts a request, if it is counted.
+    fn count(&self, noted: &Noted<'_>) {
+        if let Some(request) = request_of(noted) {
+            let micros = microseconds(self.rt).saturating_sub(self.since);
+            self.host().numbers().count_request(request, micros);
+        }
+    }
+
     /// Logs a request, where any is logged.
     fn log(&self, noted: &Noted<'_>) {
         let notices = self.host().notices();
@@ -110,7 +121,11 @@ impl<'a, R: Wait + Clock + RandomSource> Draws for OwnDaemon<'a, R> {
 }
 
 impl<'a, R: Wait + Clock + RandomSource> Monitor for OwnDaemon<'a, R> {
+    ghost use Rattle.std.specs.Prelude.{length};
+
     ghost says = { λ daemon page keys text told. Tells daemon.version.now page keys text told };
+
+    ghost noted = { λ daemon. length daemon.noted };
 
     fn is_ending(&self) -> bool {
         self.server.is_ending()
@@ -135,12 +150,10 @@ impl<'a, R: Wait + Clock + RandomSource> Monitor for OwnDaemon<'a, R> {
         }
     }
 
-    fn note(&self, noted: &Noted<'_>) {
-        if let Some(request) = request_of(noted) {
-            let micros = microseconds(self.rt).saturating_sub(self.since);
-            self.host().numbers().count_request(request, micros);
-        }
+    fn note(&mut self, noted: &Noted<'_>) {
+        self.count(noted);
         self.log(noted);
+        self.noted.add(&());
     }
 }
 

@@ -1,7 +1,7 @@
 //! Connections one after another, and what each is answered.
 
 use crate::fixed::{FixedMoment, FixedMonitor};
-use http_server::Connection;
+use http_server::{Connection, Log};
 use mac_board::FixedTables;
 use mac_decide::{Names, Rights, SeenTokens};
 use mac_http::{CONFIG, Calls, Face, Granted, Pages, Rules, Sources, Way, take_turn};
@@ -116,6 +116,7 @@ fn monitor_of(words: &[u8], seen: SeenTokens) -> FixedMonitor {
         is_well: !has(words, b"unwell"),
         has_random: !has(words, b"drawless"),
         seen,
+        noted: Log::new(),
     }
 }
 

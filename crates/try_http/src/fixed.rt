@@ -49,6 +49,8 @@ pub struct FixedMonitor {
     pub has_random: bool,
     /// Its memory of tokens.
     pub seen: SeenTokens,
+    /// An entry for each request that was noted.
+    pub noted: Log<(), ()>,
 }
 
 impl Draws for FixedMonitor {
@@ -58,8 +60,12 @@ impl Draws for FixedMonitor {
 }
 
 impl Monitor for FixedMonitor {
+    ghost use Rattle.std.specs.Prelude.{length};
+
     // What the rows of its pages compare is the text itself.
     ghost says = { λ monitor page keys text told. Unit {0} };
+
+    ghost noted = { λ monitor. length monitor.noted.items };
 
     fn is_ending(&self) -> bool {
         self.is_ending
@@ -91,5 +97,7 @@ impl Monitor for FixedMonitor {
         }
     }
 
-    fn note(&self, _noted: &Noted<'_>) {}
+    fn note(&mut self, _noted: &Noted<'_>) {
+        self.noted = self.noted.and(&(), &());
+    }
 }

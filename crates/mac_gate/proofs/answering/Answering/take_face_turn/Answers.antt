@@ -24,7 +24,7 @@ returns g c =
     c.args.heard.now.now c.take_turn.new.reader.now c.args.spoken.now.went.bytes c.take_turn.new.writer.went.bytes c.args.connection.now c.take_turn.new.connection =
     face_turn c.args.heard.now.now c.take_turn.new.reader.now c.args.spoken.now.went.bytes c.take_turn.new.writer.went.bytes first last
     c.args.connection.now c.take_turn.new.connection _ c.take_turn.ensures.turn (λ face. lent_known face.keys.0.ghost_name (known_of face.keys.0.now)) (λ face. face.rules)
-    (λ s q r t x. (x.0, x.1, x.2, x.3, x.5)) own c.args.way are in
+    (λ s q r t x. (x.under, x.looks, x.up, x.rules, x.right)) own c.args.way are in
     let loan : last.keys.0.ghost_name ≡ first.keys.0.ghost_name =
     same_loan own c.args.way first.keys.0.ghost_name last.keys.0.ghost_name (known_of first.keys.0.now) (known_of last.keys.0.now) turn.called.0 turn.called.2 in
     let lent = c.new-face.ensures.keys in
