@@ -10,11 +10,10 @@ use crate::devices::Spoken;
 use crate::draws::SystemDraws;
 use crate::offer::{AddressTerms, Offer};
 use crate::shared::Shared;
-use http_server::Connection;
+use http_server::{Connection, Log};
 use mac_board::{Follower, Tables};
 use mac_http::{Face, Way, take_turn};
 use mac_keys::KeyTable;
-use mac_mail::History;
 use mac_page::{PageFace, Site};
 use mac_system::SystemMoments;
 use std::alloc::Global;
@@ -106,7 +105,7 @@ impl<'a, R: Wait + Clock + RandomSource> Answering<'a, R> {
             server: self.server,
             version: own.terms.version,
             since: self.since,
-            noted: History::new(),
+            noted: Log::new(),
         };
         let rules = own.terms.rules(&own.rights, way);
         let moments = SystemMoments::new(self.rt);

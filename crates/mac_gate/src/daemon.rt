@@ -10,13 +10,13 @@ use crate::key_uses::append_uses;
 use crate::noting::{exchange_of, request_of};
 use crate::numbers::{Shown, append_numbers, append_status_page};
 use crate::shared::Shared;
+use http_server::Log;
 use mac_calls::Draws;
 use mac_count::Number;
 use mac_decide::SeenTokens;
 use mac_host::{Host, microseconds};
 use mac_http::{Monitor, Noted, Page, Told};
 use mac_keys::KeyTable;
-use mac_mail::History;
 use std::alloc::{AllocError, Global};
 use std::random::RandomSource;
 use std::sync::Wait;
@@ -33,7 +33,7 @@ pub struct OwnDaemon<'a, R> {
     /// Since when what is answered now has been there, in microseconds.
     pub since: u64,
     /// An entry for each request that was noted.
-    pub noted: History<()>,
+    pub noted: Log<(), ()>,
 }
 
 impl<'a, R: Wait + Clock> OwnDaemon<'a, R> {
@@ -125,7 +125,7 @@ impl<'a, R: Wait + Clock + RandomSource> Monitor for OwnDaemon<'a, R> {
 
     ghost says = { λ daemon page keys text told. Tells daemon.version.now page keys text told };
 
-    ghost noted = { λ daemon. length daemon.noted };
+    ghost noted = { λ daemon. length daemon.noted.items };
 
     fn is_ending(&self) -> bool {
         self.server.is_ending()
@@ -153,7 +153,7 @@ impl<'a, R: Wait + Clock + RandomSource> Monitor for OwnDaemon<'a, R> {
     fn note(&mut self, noted: &Noted<'_>) {
         self.count(noted);
         self.log(noted);
-        self.noted.add(&());
+        self.noted = self.noted.and(&(), &());
     }
 }
 
