@@ -12,6 +12,8 @@ from common import TOP, crates
 
 # The file in out/ that tells what a crate's proof rested on.
 SEEN = "seen"
+# What the toolchain tells of a crate that it will refuse, long before it has tried all of it.
+REFUSED = re.compile(r"so far: .*: error: ")
 # What of a library no other crate sees: the code of its functions, and the answers of their proofs.
 UNSEEN = re.compile(r"(Answers|Invariants|Proof)\.antt$|made\.json$")
 
@@ -93,7 +95,7 @@ def prove(name, jobs):
         return
     begin, rests_on = time.monotonic(), seen(name)
     with rooms.room(name) as room:
-        status, said = room.rt("check" if crates.is_program(name) else "lib", "--jobs", str(jobs))
+        status, said = room.rt("check" if crates.is_program(name) else "lib", "--jobs", str(jobs), ends_at=REFUSED)
         if status != 0 or rooms.ENDING.is_set():
             # What was proved of it up to there needs no second proof once the rest is mended.
             room.bring_back(rooms.INCREMENTAL)

@@ -59,18 +59,22 @@ class Room:
             for part in KEPT[1:] if it != name else () if is_anew else KEPT:
                 give(TOP / "crates" / it / "out" / part, self.top / "crates" / it / "out" / part)
 
-    def rt(self, *words, feed=subprocess.DEVNULL):
-        """Runs the toolchain in the crate: its status, and what it printed."""
+    def rt(self, *words, feed=subprocess.DEVNULL, ends_at=None):
+        """Runs the toolchain in the crate: its status, and what it printed. A line that this pattern fits ends it."""
         pipes = {"stdin": feed, "stdout": subprocess.PIPE, "stderr": subprocess.STDOUT, "text": True, "errors": "replace"}
         with subprocess.Popen(["rt", *words], cwd=self.crate, start_new_session=True, **pipes) as run:
             RUNS.add(run)
             if ENDING.is_set():
                 end(run)
+            said = []
             try:
-                said = run.communicate()[0]
+                for line in run.stdout:
+                    said.append(line)
+                    if ends_at and ends_at.match(line):
+                        end(run)
             finally:
                 RUNS.discard(run)
-        return run.returncode, said
+        return run.returncode, "".join(said)
 
     def take(self, *names):
         """Takes these from what lies in the crate's out/ here."""

@@ -54,7 +54,7 @@ class Checkout:
         self.write("crates/macaroond/out/macaroond", "an earlier program\n")
         self.write("tools/rt", RT)
         (self.top / "tools/rt").chmod(0o755)
-        for folder in ("build", "common"):
+        for folder in ("build", "check", "common"):
             shutil.copytree(TOP / "scripts" / folder, self.top / "scripts" / folder)
         self.git("init", "--quiet")
         self.write(".gitignore", "out/\nlibexec/\nbin/\ncalls\n__pycache__/\n")

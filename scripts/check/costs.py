@@ -72,13 +72,12 @@ def record(costs):
 
 
 def estimated(name):
-    """What the crate's proof may take: what it took when it was measured, by the lines that it has now, and as much
-    for each line as all of these where it wasn't."""
-    known = recorded()
-    minutes, lines = sum(it.proof for it in known.values()), sum(it.lines for it in known.values())
-    if name in known:
-        minutes, lines = known[name].proof, known[name].lines
-    return crates.lines(name) * minutes / lines
+    """What the crate's proof may take: what it took when it was measured, by the lines that it has now; and as much for
+    each line as all of these where it wasn't, or one minute where none was."""
+    known = recorded() if RECORD.exists() else {}
+    measured = [known[name]] if name in known else known.values()
+    lines = sum(it.lines for it in measured)
+    return crates.lines(name) * (sum(it.proof for it in measured) / lines if lines else 1)
 
 
 def edits_of(name):

@@ -206,6 +206,8 @@ def is_code(path):
 
 # Names that an .antt file brings in.
 
+# Texts, comments, and the lines that bring names in.
+NOT_CODE = re.compile(r'"(?:[^"\\]|\\.)*"|--.*|^(?:pub )?use .*', re.M)
 BROUGHT = re.compile(r"^use (?:\S+\.\{(.*)\}|\S+ as (\S+)) *$", re.M)
 
 
@@ -216,7 +218,7 @@ def unread():
         if is_code(path):
             continue
         text = path.read_text()
-        code = re.sub(r"--.*|^(?:pub )?use .*", "", text, flags=re.M).replace("←", ">>=")
+        code = NOT_CODE.sub("", text).replace("←", ">>=")
         for names, other in BROUGHT.findall(text):
             for name in (it.split(" as ")[-1] for it in (names or other).split(", ")):
                 if not all(is_in(part, code) for part in name.split("◌") if part):

@@ -1,8 +1,8 @@
 -- What the program's command line means, by `clap`'s definition of a parse.
 use Rattle.std.specs.Prelude.{◌≡◌, ◌==◌, ◌⊎◌, ◌+◌, ◌*◌, ◌≤◌, ◌||◌, ◌&&◌, ℕ, Bool, List, [], ◌∷◌, Option}
 use Rattle.std.specs.Prelude.{Some, None}
-use Rattle.std.specs.Prelude.{codes, if◌then◌else◌, false, string_bytes, true}
-use Rattle.std.specs.List.{before_first}
+use Rattle.std.specs.Prelude.{codes, if◌then◌else◌, false, nat_eq, string_bytes, true}
+use Rattle.std.specs.List.{before_first, starts_with}
 use Rattle.std.specs.Str.{bytes_eq}
 use Rattle.std.specs.Str.Parse.{IsNumeral, digits_value, without_leading_plus}
 use Rattle.std.specs.declared.string.String.{String}

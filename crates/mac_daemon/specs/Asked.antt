@@ -16,6 +16,10 @@ count_of daemon = daemon.serving.promise.count
 abbrev pub loops_of : Daemon → ℕ
 loops_of daemon = daemon.serving.promise.loops
 
+-- how many workers answer what loops must not
+abbrev pub workers_of : Daemon → ℕ
+workers_of daemon = daemon.serving.promise.workers
+
 -- where its connections come in, as that was opened
 abbrev pub entrance_of : Daemon → Entrance (Arc Rights Global)
 entrance_of daemon = daemon.serving.promise.entrance.value

@@ -6,6 +6,7 @@ use Rattle.mac_decide.specs.declared.rights.Rights.{Rights}
 use Rattle.mac_sockets.specs.Entrance.{doors_of, taken_of}
 use Rattle.mac_sockets.specs.declared.entrance.Entrance.{Entrance}
 use Rattle.mac_daemon.specs.Arrivals.{AreAdmitted, count_accepted}
+use Rattle.mac_daemon.specs.Books.{HaveWorked}
 use Rattle.mac_daemon.specs.EndedLoops.{outcomes_of}
 use Rattle.mac_daemon.specs.declared.day.Day.{Day}
 
@@ -24,6 +25,12 @@ pub record IsDay (count : Option ℕ) (loops : ℕ) (entrance : Entrance (Arc Ri
       → day.served ≡ taken_of entrance + count_accepted day.arrivals
   pub admitted : AreAdmitted (doors_of entrance) day.arrivals
   pub ended : length (outcomes_of day.loops) ≡ loops
+
+-- the whole day of a daemon whose workers have ended, so many, with their books
+pub record IsWholeDay (count : Option ℕ) (loops workers : ℕ) (entrance : Entrance (Arc Rights Global))
+    (day : Day) : Type 0 where
+  pub served : IsDay count loops entrance day
+  pub worked : HaveWorked workers day.books
 
 -- whatever was asked: where one has served so with some of its loops, the other has with one more
 abbrev pub OneLoopMore : {E : Type 0} → Result Day E → Result Day E → Type 0

@@ -1,5 +1,6 @@
 pub mod Arrivals
 pub mod Asked
+pub mod Books
 pub mod Day
 pub mod EndedLoops
 pub mod Gift

@@ -6,7 +6,9 @@ use crate::arrivals::Arrivals;
 use crate::door::Gift;
 use crate::ended_loops::EndedLoops;
 use crate::fault::DaemonFault;
+use mac_decide::Macaroons;
 use mac_loop::EndedLoop;
+use mac_pool::Finished;
 use mac_sockets::Entrance;
 use std::snapshot::Snapshot;
 use std::thread::Promise;
@@ -22,6 +24,8 @@ pub struct Day {
     pub(crate) arrivals: Arrivals,
     /// What became of those that each of its loops was given.
     pub(crate) loops: EndedLoops,
+    /// What its workers left behind, once they have ended.
+    pub(crate) books: Option<Finished<Macaroons>>,
 }
 
 impl Day {
@@ -39,6 +43,7 @@ impl Day {
             faults: 0,
             arrivals,
             loops: EndedLoops::none(),
+            books: None,
         }
     }
 }
@@ -62,13 +67,16 @@ pub struct Admission {
     pub count: Option<u64>,
     /// How many loops answer them.
     pub loops: usize,
+    /// How many workers answer what loops must not.
+    pub workers: usize,
     /// Where they come in, as that was opened.
     pub entrance: Snapshot<Entrance<Gift>>,
 }
 
 impl Promise<Result<Day, DaemonFault>> for Admission {
     ghost use Rattle.std.specs.Prelude.{IfOk};
-    ghost use Rattle.mac_daemon.specs.Day.{IsDay};
+    ghost use Rattle.mac_daemon.specs.Day.{IsWholeDay};
 
-    ghost kept_by = { λ p outcome. IfOk outcome (IsDay p.count p.loops p.entrance.value) };
+    ghost kept_by = { λ p outcome. IfOk outcome
+        (IsWholeDay p.count p.loops p.workers p.entrance.value) };
 }

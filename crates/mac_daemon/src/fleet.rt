@@ -1,7 +1,7 @@
 //! The threads of a daemon: its loops, its workers, and who accepts.
 ghost use denote.Param.Send.{IsSend, IsSync};
 ghost use Rattle.std.specs.Prelude.{◌≡◌, ◌-◌, IfOk, OnErr, length};
-ghost use Rattle.mac_daemon.specs.Day.{IsDay};
+ghost use Rattle.mac_daemon.specs.Day.{IsDay, IsWholeDay};
 ghost use Rattle.mac_daemon.specs.Homes.{AreHome};
 ghost use Rattle.mac_daemon.specs.Memory.{tokens_memory};
 ghost use Rattle.mac_loop.specs.Asks.{home_of};
@@ -179,7 +179,7 @@ impl Promise<EndedLoop> for SameDesk {
 type LoopThread = PromisedHandle<EndedLoop, SameDesk>;
 
 /// Starts the workers and the loops, serves the connections that come in, so many where a count is
-/// given, and ends the threads once all connections have ended.
+/// given, and ends the threads once all connections have ended. The day has the books of the workers.
 pub fn run_fleet<R>(
     rt: &R,
     alloc: Global,
@@ -189,7 +189,8 @@ pub fn run_fleet<R>(
 ) -> Result<Day, DaemonFault>
 where
     R: Threads + Wait + Clock + Sync + Copy + Send + 'static,
-    ensures { IfOk result (IsDay parts.count (length parts.idlers.made.items) parts.entrance) }
+    ensures { IfOk result (IsWholeDay parts.count (length parts.idlers.made.items) parts.workers
+        parts.entrance) }
 {
     let FleetParts {
         workers,
@@ -208,11 +209,12 @@ where
         count,
     };
     let day = run_loops(rt, alloc, &mut pool, made, &mut entrance, fleet);
-    let Ok(_books) = pool.stop(rt) else {
+    let Ok(books) = pool.finish(rt) else {
         unreachable!()
     };
     let mut day = day?;
     day.faults = quay.faults();
+    day.books = Some(books);
     Ok(day)
 }
 

@@ -1,8 +1,8 @@
 //! The daemon: its assembly, from its sockets to its end.
 
 ghost use Rattle.std.specs.Prelude.{◌≡◌, IfOk, length};
-ghost use Rattle.mac_daemon.specs.Asked.{count_of, daemon_doors, entrance_of, loops_of};
-ghost use Rattle.mac_daemon.specs.Day.{IsDay};
+ghost use Rattle.mac_daemon.specs.Asked.{count_of, daemon_doors, entrance_of, loops_of, workers_of};
+ghost use Rattle.mac_daemon.specs.Day.{IsWholeDay};
 ghost use Rattle.mac_sockets.specs.Entrance.{doors_of, opened, taken_of};
 
 use crate::day::{Admission, Day};
@@ -79,6 +79,7 @@ where
     R: Net + Threads + Wait + Clock + RandomSource + Eprint,
     R: Sync + Copy + Send + 'static,
     ensures count { IfOk result (λ daemon. count_of daemon ≡ terms.entry.accept) }
+    ensures workers { IfOk result (λ daemon. workers_of daemon ≡ terms.entry.shape.workers) }
     ensures doors { IfOk result (λ daemon. daemon_doors daemon ≡ opened doors) }
     ensures taken { IfOk result (λ daemon. taken_of (entrance_of daemon) ≡ 0) }
 {
@@ -151,7 +152,8 @@ impl Daemon {
     /// Waits until all connections have ended of a daemon that ends by itself, and tells what it
     /// did.
     pub fn await_day<R: Threads>(self, rt: &R) -> Result<Day, DaemonFault>
-        ensures { IfOk result (IsDay (count_of self) (loops_of self) (entrance_of self)) }
+        ensures { IfOk result (IsWholeDay (count_of self) (loops_of self) (workers_of self)
+            (entrance_of self)) }
     {
         self.serving.join(rt)
     }
@@ -241,6 +243,7 @@ where
     ensures count { IfOk result (λ serving. serving.promise.count ≡ service.count) }
     ensures loops { IfOk result (λ serving. serving.promise.loops
         ≡ length service.idlers.made.items) }
+    ensures workers { IfOk result (λ serving. serving.promise.workers ≡ service.workers) }
     ensures doors { IfOk result (λ serving. doors_of serving.promise.entrance.value
         ≡ doors_of service.entrance) }
     ensures taken { IfOk result (λ serving. taken_of serving.promise.entrance.value
@@ -250,11 +253,13 @@ where
     let admission = Admission {
         count: service.count,
         loops: service.idlers.count(),
+        workers: service.workers,
         entrance: Snapshot::of(&service.entrance),
     };
     let work = move || -> Result<Day, DaemonFault>
         ensures { IfOk result
-            (IsDay service.count (length service.idlers.made.items) service.entrance) }
+            (IsWholeDay service.count (length service.idlers.made.items) service.workers
+                service.entrance) }
     {
         let outcome = run_fleet(&rt, alloc, service, &followers, &ending);
         ending.finish(&rt);

@@ -17,7 +17,7 @@ use Rattle.mac_http.specs.declared.rules.Way.{Way}
 use Rattle.mac_keys.specs.KeyTable.{Table}
 use Rattle.mac_page.specs.Told.{Responds}
 use Rattle.mac_page.specs.declared.site.Site.{Site as PageSite}
-use Rattle.mac_gate.specs.Answered.{AreAnswered, AreTurns, AreUnder, GoesByTurns, HasTurn, IsAnswerUnder, IsUnder, KeepOrder, TakesTurn, Turn, answers_in, answers_of, lent_known}
+use Rattle.mac_gate.specs.Answered.{AreAnswered, AreTurns, AreUnder, GoesByTurns, HasTurn, IsAnswerUnder, IsUnder, KeepOrder, TakesTurn, Turn, answers_in, answers_of}
 use Rattle.mac_gate.specs.Going.{Past}
 use Rattle.mac_gate.specs.Lives.{AreRules, IsOffered, IsTurnBy, way_of}
 use Rattle.mac_gate.specs.declared.offer.AddressTerms.{AddressTerms}
@@ -50,39 +50,6 @@ face_turn u v x y first last a b answers turn known rules each own by are = reco
   config = turn.config;
 }
 
--- what stands behind the first number
-abbrev behind : List ℕ → List ℕ
-behind [] = []
-behind (x ∷ xs) = xs
-
-abbrev unlent : Known → Known
-unlent known = record known { looks = behind known.looks }
-
-takes-unlent : (a b : Known) (n : ℕ) (xs : List ℕ) (tables : List Table) → a.looks ≡ n ∷ xs → Takes true a b tables → Takes true (unlent a) (unlent b) tables
-takes-unlent a b n xs [] is same = ap (λ (k : Known). unlent k) same
-takes-unlent a b n xs (t ∷ tables) is (now, looked, up, rest) =
-    let more : now.looks ≡ n ∷ (xs ++ now.place ∷ []) = looked.told refl ∙ ap (λ (l : List ℕ). l ++ now.place ∷ []) is in (
-      unlent now,
-      record {
-        begins = looked.begins;
-        ahead = looked.ahead;
-        told = λ tells. ap (λ (l : List ℕ). behind l) more ∙ ap (λ (l : List ℕ). l ++ now.place ∷ []) (sym (ap (λ (l : List ℕ). behind l) is));
-      },
-      up,
-      takes-unlent now b n (xs ++ now.place ∷ []) tables more rest,
-    )
-
--- the loan stays the same
-pub same_loan : (own : AddressTerms) (by : Way) (n m : ℕ) (k j : Known) (calls : List Call) → AreUnder own by (lent_known n k) (lent_known m j) calls → m ≡ n
-same_loan own by n m k j calls are =
-    let h = in-order true (lent_known n k) (lent_known m j) are.0 are.1 in
-    let looks : m ∷ j.looks ≡ n ∷ (k.looks ++ h.places) = h.looks refl in
-    cc
-
--- what is lent is told as it is
-pub under_loan : (own : AddressTerms) (by : Way) (n m : ℕ) (k j : Known) (calls : List Call) → AreUnder own by (lent_known n k) (lent_known m j) calls → AreUnder own by k j calls
-under_loan own by n m k j calls are = (are.0, takes-unlent (lent_known n k) (lent_known m j) n k.looks are.0 refl are.1, are.2)
-
 -- a turn whose requests are answered as something more is asked
 pub turn_weaker : (P Q : List Call → Type 0) → ((calls : List Call) → P calls → Q calls) → (u v x y : List ℕ) (a b : Connection) → IsTurnBy P u v x y a b → IsTurnBy Q u v x y a b
 turn_weaker P Q less u v x y a b t = record {
@@ -92,13 +59,12 @@ turn_weaker P Q less u v x y a b t = record {
   config = t.config;
 }
 
--- a turn by a loan that is given back
-pub loan_turn : (own : AddressTerms) (by : Way) (n m : ℕ) (k j : Known) (was : Option Known) (is : Known) → was ≡ Some k → is ≡ j → (u v x y : List ℕ) (a b : Connection)
-    → IsTurnBy (AreUnder own by (lent_known n k) (lent_known m j)) u v x y a b → IsTurnBy (AreAnswered (Daemon own) by was (Some is)) u v x y a b
-loan_turn own by n m k j was is was_is is_is u v x y a b t =
-    subst (λ (w : Option Known). IsTurnBy (AreAnswered (Daemon own) by w (Some is)) u v x y a b) (sym was_is)
-    (subst (λ (i : Known). IsTurnBy (AreAnswered (Daemon own) by (Some k) (Some i)) u v x y a b) (sym is_is)
-    (turn_weaker (AreUnder own by (lent_known n k) (lent_known m j)) (AreUnder own by k j) (under_loan own by n m k j) u v x y a b t))
+-- a turn by who follows tables
+pub followed_turn : (own : AddressTerms) (by : Way) (was is : Option Known) (k j : Known) → was ≡ Some k → is ≡ Some j → (u v x y : List ℕ) (a b : Connection)
+    → IsTurnBy (AreUnder own by k j) u v x y a b → IsTurnBy (AreAnswered (Daemon own) by was is) u v x y a b
+followed_turn own by was is k j was_is is_is u v x y a b t =
+    subst (λ (w : Option Known). IsTurnBy (AreAnswered (Daemon own) by w is) u v x y a b) (sym was_is)
+    (subst (λ (i : Option Known). IsTurnBy (AreAnswered (Daemon own) by (Some k) i) u v x y a b) (sym is_is) t)
 
 -- a turn in which nothing is done
 pub idle_turn : (AreRight : List Call → Type 0) → AreRight [] → (u y : List ℕ) (a : Connection) → IsTurnBy AreRight u u y y a a

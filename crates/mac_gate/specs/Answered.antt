@@ -25,11 +25,6 @@ abbrev pub known_to : Option Follower → Option Known
 known_to None = None
 known_to (Some follower) = Some (known_of follower)
 
--- the same of a follower that is lent: the name of the loan stands in front of the places of its
--- looks, so that each look tells that it is the same loan
-abbrev pub lent_known : ℕ → Known → Known
-lent_known name known = record known { looks = name ∷ known.looks }
-
 -- the response is right for its request under this table, at some moment, by the rules that an
 -- address has for who comes by this way
 abbrev pub IsUnder : AddressTerms → Way → Table → Call → Type 0

@@ -1,7 +1,7 @@
 //! Who answers the connections of a loop.
 
-ghost use Rattle.std.specs.Prelude.{All, true};
-ghost use Rattle.mac_gate.specs.Answered.{AreAnswered, known_of, known_to, lent_known};
+ghost use Rattle.std.specs.Prelude.{All};
+ghost use Rattle.mac_gate.specs.Answered.{AreAnswered, known_to};
 ghost use Rattle.mac_gate.specs.Lives.{IsTurnBy};
 ghost use Rattle.mac_page.specs.Told.{Responds};
 
@@ -11,9 +11,8 @@ use crate::draws::SystemDraws;
 use crate::offer::{AddressTerms, Offer};
 use crate::shared::Shared;
 use http_server::{Connection, Log};
-use mac_board::{Follower, Tables};
+use mac_board::Follower;
 use mac_http::{Face, Way, take_turn};
-use mac_keys::KeyTable;
 use mac_page::{PageFace, Site};
 use mac_system::SystemMoments;
 use std::alloc::Global;
@@ -33,32 +32,6 @@ pub struct Answering<'a, R> {
     pub keys: Option<Follower>,
     /// Since when what is answered next has been there, in microseconds.
     pub since: u64,
-}
-
-/// What follows the tables, lent for a turn.
-#[derive(Drop)]
-struct LentTables<'a>(&'a mut Follower);
-
-impl<'a> Tables for LentTables<'a> {
-    ghost tells = { true };
-
-    ghost known = { λ lent. lent_known lent.0.ghost_name (known_of lent.0.now) };
-
-    fn look(&mut self) {
-        self.0.look();
-    }
-
-    fn reach(&mut self, place: u64) -> bool {
-        self.0.reach(place)
-    }
-
-    fn place(&self) -> u64 {
-        self.0.place()
-    }
-
-    fn table(&self) -> &KeyTable {
-        self.0.table()
-    }
 }
 
 impl<'a, R: Wait + Clock + RandomSource> Answering<'a, R> {
@@ -96,7 +69,7 @@ impl<'a, R: Wait + Clock + RandomSource> Answering<'a, R> {
             (known_to self.old.keys) (known_to self.new.keys)) heard.old.now heard.new.now
             spoken.old.went.bytes spoken.new.went.bytes connection.old connection.new }
     {
-        let Some(keys) = &mut self.keys else {
+        let Some(keys) = self.keys.take() else {
             return Err(ErrorKind::Unsupported.into());
         };
         let daemon = OwnDaemon {
@@ -109,8 +82,10 @@ impl<'a, R: Wait + Clock + RandomSource> Answering<'a, R> {
         };
         let rules = own.terms.rules(&own.rights, way);
         let moments = SystemMoments::new(self.rt);
-        let mut face = Face::new(self.alloc, LentTables(keys), rules, moments, daemon);
-        take_turn(connection, &mut face, heard, spoken)
+        let mut face = Face::new(self.alloc, keys, rules, moments, daemon);
+        let written = take_turn(connection, &mut face, heard, spoken);
+        self.keys = Some(face.into_keys());
+        written
     }
 
     /// The same by the face of a site.

@@ -53,6 +53,15 @@ impl<'a, K, M, S> Face<'a, K, M, S> {
     }
 }
 
+impl<'a, K, M: Drop, S: Drop> Face<'a, K, M, S> {
+    /// What it had its key tables from, as that is now.
+    pub fn into_keys(self) -> K
+        ensures { result ≡ self.entry.keys }
+    {
+        self.keys
+    }
+}
+
 impl<'a, K: Tables, M: Moments, S: Monitor> Service for Face<'a, K, M, S> {
     ghost answers = { AnswersOnce K.tells (λ face. record {
         known = K.known face.keys;
