@@ -62,7 +62,8 @@ fn judged_few(
     moment: u64,
 ) -> Result<Vec<u8>, CallFault>
     ensures { Gives (λ text. text.items) result
-        (judged_few (option_map lent_verifier verifier.entry) text.now (byte_lists facts.now) moment) }
+        (judged_few (option_map lent_verifier verifier.entry)
+        text.now (byte_lists facts.now) moment) }
 {
     match counted_facts(alloc, facts)? {
         Some(counted) => judged_at(alloc, verifier, text, &counted, moment),

@@ -117,7 +117,8 @@ fn read_listen(alloc: Global, options: &ArgMatches<'_>) -> Result<Choice, Option
 fn has_http_modes(options: &ArgMatches<'_>) -> bool
     ensures { result ≡ false →
         (mode_given (first_of (codes "http-mode") (rows_of (found_of options.now))) ≡ None)
-        ⊎ (mode_given (first_of (codes "http-calls-mode") (rows_of (found_of options.now))) ≡ None) }
+        ⊎ (mode_given (first_of (codes "http-calls-mode")
+        (rows_of (found_of options.now))) ≡ None) }
 {
     read_mode(options, "http-mode").is_some() && read_mode(options, "http-calls-mode").is_some()
 }

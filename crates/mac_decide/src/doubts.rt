@@ -38,8 +38,9 @@ impl Doubt {
     }
 }
 
-/// The first doubt about a caveat at a moment, in seconds since 1970-01-01T00:00:00Z; it is repeated
-/// where an earlier one equals it. It costs a look at the caveat's first bytes and at its last.
+/// The first doubt about a caveat at a moment, in seconds since 1970-01-01T00:00:00Z; it is
+/// repeated where an earlier one equals it. It costs a look at the caveat's first bytes and at its
+/// last.
 #[tactic(auto, unfolding(crate::specs::Doubt::doubt_of))]
 pub fn find_doubt(caveat: &[u8], is_repeated: bool, moment: u64) -> Option<Doubt>
     ensures { result ≡ doubt_of caveat.now is_repeated moment }

@@ -29,8 +29,8 @@ pub enum Lack {
     NoFact,
 }
 
-/// Why a caveat isn't satisfied, or nothing where it is. It costs what a verify of the caveat costs,
-/// and as much again.
+/// Why a caveat isn't satisfied, or nothing where it is. It costs what a verify of the caveat
+/// costs, and as much again.
 #[tactic(auto, unfolding(crate::specs::Lack::lack_of))]
 pub fn find_lack(caveat: &[u8], context: &Context<'_>) -> Option<Lack>
     ensures { result ≡ lack_of caveat.now context.now }

@@ -237,8 +237,8 @@ pub fn who_may_not_mint_has_no_token_minted()
 {}
 
 /// Names that a connection may not use are as if no key had them: where a table has the keys of the
-/// others alone, and what was taken back, all is answered as under it with no name forbidden. So an answer doesn't tell
-/// whether such a name has a key.
+/// others alone, and what was taken back, all is answered as under it with no name forbidden. So an
+/// answer doesn't tell whether such a name has a key.
 pub fn other_names_have_no_keys()
     ensures { (terms : Terms) (few : Table) (arrival : PlainArrival)
         → few.revoked ≡ terms.table.revoked

@@ -69,8 +69,8 @@ fn remember_payload(
     }
 }
 
-/// Remembers the token of a verify whose reply tells that it is minted. It is read and hashed once it
-/// is kept, and no sooner.
+/// Remembers the token of a verify whose reply tells that it is minted. It is read and hashed once
+/// it is kept, and no sooner.
 fn remember(seen: &SeenTokens, alloc: Global, asking: &Asking<'_>, reply: &Reply)
     requires { reply.now ≡ asking_reply asking.now }
 {
@@ -148,8 +148,8 @@ struct KeyedText<'a> {
     text: &'a [u8],
 }
 
-/// What is to be verified, if it is a verify whose name has keys. A reply to it that tells so is given
-/// to a token that is minted.
+/// What is to be verified, if it is a verify whose name has keys. A reply to it that tells so is
+/// given to a token that is minted.
 fn keyed_text<'a>(asking: &Asking<'a>) -> Option<KeyedText<'a>>
     ensures { IfSome result (λ keyed. (reply : PlainReply) → reply ≡ asking_reply asking.now
         → answers.tells_minted reply ≡ true

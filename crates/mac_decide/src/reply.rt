@@ -25,8 +25,8 @@ pub fn answer(alloc: Global, job: &Job) -> Result<Reply, NoMemory>
     ensures sendable { IfOk result IsReply }
     ensures memory { OnErr result (answers.TakesMemory job.now.arrival) }
 
-    // The headline: a verify is granted exactly where its keys are there and accept its token, and it
-    // was not taken back.
+    // The headline: a verify is granted exactly where its keys are there and accept its token, and
+    // it was not taken back.
     ensures granted { (payload name token : List ℕ) (moment : ℕ) (facts : List (List ℕ))
         → job.now.arrival ≡ Arrival.Payload payload → Asks payload (verify name token moment facts)
         → IfOk result (λ r. (r ≡ Reply.Granted)

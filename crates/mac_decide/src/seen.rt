@@ -243,8 +243,8 @@ impl SeenTokens {
         self.shared.as_ref()?.part(mark)?.try_write()
     }
 
-    /// The reply to a verify of a text that is there, found to be minted under one of these keys. It
-    /// is counted.
+    /// The reply to a verify of a text that is there, found to be minted under one of these keys.
+    /// It is counted.
     pub(crate) fn reply(
         &self,
         alloc: Global,

@@ -25,7 +25,8 @@ pub(crate) fn find_signer(alloc: Global, keys: &Keys, text: &[u8]) -> Result<Sig
     }
 }
 
-/// The first key, where it gives the signature of the token that the text spells, and else the second.
+/// The first key, where it gives the signature of the token that the text spells, and else the
+/// second.
 fn first_or_second(alloc: Global, first: &RootKey, text: &[u8]) -> Result<Signer, NoMemory>
     ensures { IfOk result (λ signer. signer ≡ signer_by first.now text.now) }
 {

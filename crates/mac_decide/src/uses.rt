@@ -209,7 +209,8 @@ impl KeyUses {
         self.given.fetch_add(1, SeqCst)
     }
 
-    /// The counters of a name. A name that is new is put among the others, as long as there is room.
+    /// The counters of a name. A name that is new is put among the others, as long as there is
+    /// room.
     pub(crate) fn of(&self, alloc: Global, name: &[u8]) -> Result<Arc<NameUses, Global>, NoMemory> {
         match self.find(name) {
             Some(found) => found,

@@ -75,7 +75,8 @@ pub fn no_page_is_told_elsewhere()
 /// So whatever tokens, facts and other texts two requests bring: where these are the same, what
 /// their lines tell is.
 pub fn lines_tell_nothing_else()
-    ensures { (fields : FieldsText) (identifiers : Bool) (one other : PlainNoted) (e f : PlainExchange)
+    ensures { (fields : FieldsText) (identifiers : Bool) (one other : PlainNoted)
+        (e f : PlainExchange)
         → AreNotedAlike identifiers one other
         → IsExchangeOf identifiers one e → IsExchangeOf identifiers other f
         → with_request fields e ≡ with_request fields f }

@@ -92,7 +92,8 @@ impl Filter {
     /// Notes that an identifier with this hash has come.
     pub(crate) fn add(&mut self, hash: u64)
         ensures this { may_have self.new hash ≡ true }
-        ensures others { (other : ℕ) → may_have self.old other ≡ true → may_have self.new other ≡ true }
+        ensures others { (other : ℕ) → may_have self.old other ≡ true
+            → may_have self.new other ≡ true }
     {
         let place = place_of(self.bytes.len(), hash);
         if let Some(byte) = self.bytes.get_mut(place) {

@@ -21,8 +21,8 @@ use std::marker::Model;
 /// The greatest number of names in a table.
 pub const NAMES_MAX: usize = 1000;
 
-/// The names of a key file, each with the root keys of its secrets. The keys are overwritten where a
-/// table is let go of.
+/// The names of a key file, each with the root keys of its secrets. The keys are overwritten where
+/// a table is let go of.
 pub struct KeyMap {
     keys: BTreeMap<Vec<u8>, Keys>,
 }

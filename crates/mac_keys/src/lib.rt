@@ -4,8 +4,8 @@
 //! takes it whole and keeps of each secret the root key that is derived from it;
 //! [`KeyTable::find`] looks a name up. [`laws`] says in other words what a file means.
 //!
-//! Beside its names a table has a [`RevokedList`], of tokens that were taken back. That is a text of
-//! its own, which [`RevokedList::read`] takes; [`KeyTable::take_back`] puts it into a table.
+//! Beside its names a table has a [`RevokedList`], of tokens that were taken back. That is a text
+//! of its own, which [`RevokedList::read`] takes; [`KeyTable::take_back`] puts it into a table.
 #![tactic(auto)]
 
 mod change;

@@ -52,8 +52,8 @@ impl Fields {
         }
     }
 
-    /// These fields and one more, whose value may be any bytes, but for the name of a key and the id
-    /// of a request. What passes their room is cut, and ends in a mark.
+    /// These fields and one more, whose value may be any bytes, but for the name of a key and the
+    /// id of a request. What passes their room is cut, and ends in a mark.
     pub fn with_text(self, key: Key, value: &[u8]) -> Result<Fields, NoMemory>
         requires name { key ≡ Key.Name → is_told_name value.now ≡ true }
         requires id { key ≡ Key.Id → is_told_id value.now ≡ true }
@@ -71,8 +71,8 @@ impl Fields {
         }
     }
 
-    /// These fields and one more, of whose value so many bytes are told at most. A longer one is cut,
-    /// and ends in a mark.
+    /// These fields and one more, of whose value so many bytes are told at most. A longer one is
+    /// cut, and ends in a mark.
     pub fn with_front(self, key: Key, value: &[u8], most: usize) -> Result<Fields, NoMemory>
         requires name { key ≢ Key.Name }
         requires id { key ≢ Key.Id }

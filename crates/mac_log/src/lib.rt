@@ -4,8 +4,8 @@
 //! Who posts a line never waits for who reads it: one thread prints what waits in a bounded queue.
 //! Of each kind but that of requests at most ten lines a second are printed, and then one that says
 //! how many were left out. Lines of requests leave a quarter of the queue to the others. No value
-//! can end a line or pass for a key of it ([`laws`]), and no token stands where a name is told. A line
-//! has at most `LINE_MAX` bytes: what is longer is cut, and ends in ` ...`.
+//! can end a line or pass for a key of it ([`laws`]), and no token stands where a name is told. A
+//! line has at most `LINE_MAX` bytes: what is longer is cut, and ends in ` ...`.
 #![tactic(auto)]
 
 mod books;

@@ -5,8 +5,8 @@ ghost use Rattle.mac_log.specs.Name.{is_told_name};
 
 use mac_keys::is_name;
 
-/// How many letters the shortest token has that base64 spells: one in V2 binary, without a location,
-/// an identifier and caveats.
+/// How many letters the shortest token has that base64 spells: one in V2 binary, without a
+/// location, an identifier and caveats.
 pub const TOKEN_MIN: usize = 52;
 
 /// Whether a line tells these bytes as the name of a key: a key file may have them as a name, and

@@ -151,8 +151,8 @@ impl Printer {
         }
     }
 
-    /// Prints that lines of a kind were left out, if any were. Where there is no memory for that, it
-    /// is still to be told.
+    /// Prints that lines of a kind were left out, if any were. Where there is no memory for that,
+    /// it is still to be told.
     fn print_left_out<R: Eprint>(&mut self, rt: &R, kind: Kind, millis: u64, count: u64)
         ensures { Gains self.old.books self.new.books kind count }
     {

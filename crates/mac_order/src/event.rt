@@ -1,5 +1,5 @@
-//! The events of the world that the laws speak of, and what comes of each. `specs/Step.antt` defines
-//! what each does.
+//! The events of the world that the laws speak of, and what comes of each. `specs/Step.antt`
+//! defines what each does.
 
 use crate::service::Service;
 

@@ -29,7 +29,8 @@ impl<P: Port> Client<P> {
     pub fn ask(&mut self, alloc: Global, current: Current<'_>) -> Option<Job>
         ensures idle { self.old.course ≢ course.Wide → (result ≡ None) × (self.new ≡ self.old) }
         ensures asked { IfSome result (IsAsked (lent_current current.entry) self.old self.new) }
-        ensures fallen { self.old.course ≡ course.Wide → IfNone result (IsGivenUp self.old self.new) }
+        ensures fallen { self.old.course ≡ course.Wide
+            → IfNone result (IsGivenUp self.old self.new) }
         ensures rights { self.new.rights ≡ self.old.rights }
         ensures answers { Answers P.tells P.taken P.written self.old self.new
             (option_to_list result) }

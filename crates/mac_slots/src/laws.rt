@@ -15,8 +15,10 @@ pub fn a_slot_is_listed_once<C: Drop>(slots: &Slots<C>, slot: usize)
 
 /// A slot of somebody's that is listed is ready, and whoever was ready is so still.
 pub fn who_is_listed_is_ready<C>()
-    ensures ready { (s : Seen C) (slot : ℕ) → at s slot ≢ Free → 0 < times slot (with_listed s slot).ready }
-    ensures others { (s : Seen C) (slot other : ℕ) → times other s.ready ≤ times other (with_listed s slot).ready }
+    ensures ready { (s : Seen C) (slot : ℕ) → at s slot ≢ Free
+        → 0 < times slot (with_listed s slot).ready }
+    ensures others { (s : Seen C) (slot other : ℕ)
+        → times other s.ready ≤ times other (with_listed s slot).ready }
 {}
 
 /// A slot that is released is in the list no more, and whoever else was ready is so still.

@@ -78,7 +78,8 @@ impl<C: Drop> Slots<C> {
     /// where the slot is neither.
     pub fn put(&mut self, slot: usize, connection: C) -> Result<(), C>
         ensures lent { IsOk result ↔ (at self.old slot ≡ Lent) }
-        ensures held { OnOk result (Becomes self.old self.new slot (Held connection) self.old.ready) }
+        ensures held { OnOk result
+            (Becomes self.old self.new slot (Held connection) self.old.ready) }
         ensures back { IfErr result (λ back. back ≡ connection) }
         ensures same { OnErr result (self.new ≡ self.old) }
     {

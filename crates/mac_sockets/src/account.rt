@@ -101,9 +101,9 @@ impl Account {
         self.held = self.held.saturating_sub(before).saturating_add(now);
     }
 
-    /// Has what its connections hold and so much besides. Whether there is as much: else it has what
-    /// it had. A first lack may be a moment's, as other loops give back what their turns haven't
-    /// taken; at the next one in a row others know what it wants.
+    /// Has what its connections hold and so much besides. Whether there is as much: else it has
+    /// what it had. A first lack may be a moment's, as other loops give back what their turns
+    /// haven't taken; at the next one in a row others know what it wants.
     pub fn has_room<R: Wait>(&mut self, rt: &R, more: u64) -> bool
         ensures taken { self.new.taken
             ≡ (if result then plus_more self.old.held more else self.old.taken) }
@@ -195,8 +195,8 @@ impl Account {
         }
     }
 
-    /// Waits for a moment, for what other loops give back. Where they know that it lacks memory, they
-    /// look, whose connections may hold more.
+    /// Waits for a moment, for what other loops give back. Where they know that it lacks memory,
+    /// they look, whose connections may hold more.
     pub fn await_others<R: Wait + Clock>(&self, rt: &R) {
         if self.wants > 0 {
             self.budget.wake_all(rt);
@@ -205,8 +205,8 @@ impl Account {
     }
 }
 
-/// Whether so much is at least half of what each of so many loops has in the mean, which have so much
-/// together.
+/// Whether so much is at least half of what each of so many loops has in the mean, which have so
+/// much together.
 fn is_much(held: u64, loops: usize, all: u64) -> bool
     ensures { result ≡ is_much held loops all }
 {

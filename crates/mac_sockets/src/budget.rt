@@ -6,8 +6,8 @@ ghost use Rattle.mac_sockets.specs.Budget.{with_held, with_taken, with_wanted};
 
 use std::marker::Model;
 
-/// How many bytes there are, and how many of them are taken: never more. What is taken for turns and
-/// isn't held by connections comes back soon.
+/// How many bytes there are, and how many of them are taken: never more. What is taken for turns
+/// and isn't held by connections comes back soon.
 #[derive(Drop)]
 pub struct Budget {
     most: u64,

@@ -20,7 +20,8 @@ const WAKER: usize = 1 << 40;
 /// How many events are taken at a time.
 const EVENTS: usize = 256;
 
-/// How many microseconds a connection has rested at least that gives way to another one of its socket.
+/// How many microseconds a connection has rested at least that gives way to another one of its
+/// socket.
 pub const REST_MIN: u64 = 250_000;
 
 /// What may be so of a connection's socket.

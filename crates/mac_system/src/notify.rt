@@ -76,8 +76,8 @@ impl NotifySocket {
         })
     }
 
-    /// Tells a state, or why it can't be told. A call that was broken off is made again. Nobody says
-    /// whether it was read.
+    /// Tells a state, or why it can't be told. A call that was broken off is made again. Nobody
+    /// says whether it was read.
     pub fn tell(&self, state: State) -> io::Result<()>
         ensures retried { IfErr result (λ fault. error_kind fault ≢ ErrorKind.Interrupted) }
     {

@@ -53,7 +53,7 @@ pub(crate) fn outcome(alloc: Global, line: &str) -> Result<String, AllocError> {
 /// cuts TOKEN: the refusal of each front part, in runs
 /// time CAVEAT: the second of a time limit or, behind `from`, of a lower bound, or `none`
 /// satisfied CAVEAT MOMENT FACT,..: `satisfied` or `unsatisfied`
-/// lack CAVEAT MOMENT FACT,..: why a caveat isn't satisfied, and how many bytes the nearest fact shares
+/// lack CAVEAT MOMENT FACT,..: why a caveat fails, and how many bytes the nearest fact shares
 /// doubt CAVEAT MOMENT REPEATED: why the caveat can hardly hold, or `none`; REPEATED is 0 or 1
 /// add FORM TOKEN CAVEAT,..: the token with caveats, or the refusal
 /// token FORM SECRET LOCATION IDENTIFIER CAVEAT,.. TOKEN: how a token agrees with its parts
