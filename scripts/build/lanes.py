@@ -40,8 +40,8 @@ def chains(tasks):
 
 def share(idle, others, is_longest, lanes):
     """How many jobs a task may use, beside so many others that are ready. One for which the longest chain waits has
-    half of all lanes at least, though fewer be idle."""
-    least = lanes // 2 if is_longest else 1
+    half of all lanes at least, rounded up, though fewer be idle."""
+    least = (lanes + 1) // 2 if is_longest else 1
     return max(1, least, min(MOST_JOBS, idle // (others + 1)))
 
 
