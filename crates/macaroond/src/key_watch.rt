@@ -5,6 +5,7 @@ ghost use Rattle.mac_daemon.specs.Asked.{daemon_doors};
 ghost use Rattle.mac_sockets.specs.Entrance.{opened};
 ghost use Rattle.macaroond.specs.Doors.{ArePlanned};
 ghost use Rattle.macaroond.specs.Rights.{GiveInOrder};
+ghost use Rattle.macaroond.specs.Watching.{BeginsWith};
 
 use crate::doors::{HttpServers, open_plan};
 use crate::http::HttpPlan;
@@ -78,13 +79,15 @@ impl<'a> From<ServerFault> for ListenFault<'a> {
     }
 }
 
-/// What the files that a daemon follows gave first.
+/// The files that a daemon follows, and what they gave first.
 #[derive(Drop)]
-pub(crate) struct Found {
-    /// The key file.
-    pub(crate) first: FirstKeys,
-    /// The list.
-    pub(crate) revoked: Option<FirstList>,
+pub(crate) struct Found<'a> {
+    /// Where they are.
+    pub(crate) followed: Followed<'a>,
+    /// What the key file gave.
+    pub(crate) keys: FirstKeys,
+    /// What the list gave, where there is one.
+    pub(crate) list: Option<FirstList>,
 }
 
 /// Listens until it is told to end, under the table that the key file at a path has at each moment.
@@ -94,8 +97,7 @@ pub(crate) fn listen_and_watch<'a, R>(
     rt: &R,
     terms: DaemonTerms<'_>,
     sockets: Sockets<'a>,
-    followed: Followed<'_>,
-    found: Found,
+    found: Found<'_>,
     claim: PathClaim,
     process: Process,
 ) -> Result<(), ListenFault<'a>>
@@ -106,7 +108,7 @@ where
 {
     let handed = handed_listener(rt, process).map_err(DaemonFault::from)?;
     let mut holdings = Holdings::new(rt.alloc(), claim, process);
-    let outcome = listen_holding(rt, terms, sockets, followed, found, handed, &mut holdings);
+    let outcome = listen_holding(rt, terms, sockets, found, handed, &mut holdings);
     holdings.clear(rt);
     outcome
 }
@@ -116,8 +118,7 @@ fn listen_holding<'a, R>(
     rt: &R,
     terms: DaemonTerms<'_>,
     sockets: Sockets<'a>,
-    followed: Followed<'_>,
-    found: Found,
+    found: Found<'_>,
     handed: Option<UnixListener>,
     holdings: &mut Holdings,
 ) -> Result<(), ListenFault<'a>>
@@ -126,29 +127,9 @@ where
     R: Net<Listener = TcpListener, Stream = TcpStream>,
     R: Threads + Wait + Sync + Copy + Send + 'static,
 {
-    let Found { first, revoked } = found;
-    let FirstKeys {
-        read,
-        before,
-        after,
-    } = first;
-    let mut lines = 0;
-    let mut table = read.table;
-    if let Some(revoked) = &revoked {
-        table.take_back(&revoked.list)?;
-    }
-    let mut editor = Editor::new(rt.alloc(), *rt, table, FOLLOWERS, before, after)?;
-    if let Some(
-        FirstList {
-            list,
-            before,
-            after,
-        },
-    ) = revoked
-    {
-        editor = editor.with_list_found(before, after);
-        lines = list.lines();
-    }
+    let followed = found.followed;
+    let lines = found.list.as_ref().map_or(0, |first| first.list.lines());
+    let editor = open_editor(rt, found)?;
     let started = start_all(rt, terms, sockets, &editor, handed, holdings)?;
     started.daemon.tell_list_lines(lines);
     let host = started.daemon.host()?;
@@ -161,6 +142,29 @@ where
     let _kept_up = watch(rt, watched, editor, &started.daemon, holdings);
     end_all(rt, started);
     Ok(())
+}
+
+/// A board with the table that the files gave first: a token that the list takes back is refused
+/// from the first request on.
+fn open_editor<R>(rt: &R, found: Found<'_>) -> Result<Editor<R>, AllocError>
+where
+    R: Alloc<A = Global> + Wait + Copy + Drop,
+    ensures { IfOk result (λ editor. BeginsWith found.entry editor) }
+{
+    let Found {
+        followed: _,
+        keys,
+        list,
+    } = found;
+    let mut table = keys.read.table;
+    if let Some(first) = &list {
+        table.take_back(&first.list)?;
+    }
+    let editor = Editor::new(rt.alloc(), *rt, table, FOLLOWERS, keys.before, keys.after)?;
+    Ok(match list {
+        Some(first) => editor.with_list_found(first.before, first.after),
+        None => editor,
+    })
 }
 
 /// A daemon with its servers over HTTP.

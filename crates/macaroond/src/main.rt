@@ -174,13 +174,12 @@ where
     if let Err(refused) = open_standard(rt) {
         return tell_nowhere(rt, &refused);
     }
-    let watched = followed_by(options);
-    let found = match find_files(rt, watched) {
+    let found = match find_files(rt, followed_by(options)) {
         Ok(found) => found,
         Err(status) => return status,
     };
     warn_of_minting(rt, http.minting_port());
-    let names = found.first.read.table.len();
+    let names = found.keys.read.table.len();
     let reserved = http.descriptors(count_loops(rt, options.loops));
     let terms = name_terms(rt, options, names, reserved, logged, find_memory(rt));
     let Ok((rights, side)) = read_sockets(rt.alloc(), options) else {
@@ -188,7 +187,7 @@ where
     };
     let sockets = Sockets { rights, side, http };
     let claim = claim_of(options.replace);
-    match listen_and_watch(rt, terms, sockets, watched, found, claim, process) {
+    match listen_and_watch(rt, terms, sockets, found, claim, process) {
         Ok(()) => Status::Done,
         Err(fault) => tell_listen(rt, options, fault),
     }
@@ -210,25 +209,29 @@ fn followed_by<'a>(options: &'a ListenOptions) -> Followed<'a> {
 }
 
 /// What these files give first. Else says why one isn't taken, and how the run ends.
-fn find_files<R>(rt: &R, followed: Followed<'_>) -> Result<Found, Status>
+fn find_files<'a, R>(rt: &R, followed: Followed<'a>) -> Result<Found<'a>, Status>
 where
     R: Alloc<A = Global> + Eprint + Files<File = File>,
     ensures { IfOk result (λ found.
-        IsKeyTable found.first.read.table × IfSome found.revoked (λ list. IsList list.list)) }
+        IsKeyTable found.keys.read.table × IfSome found.list (λ list. IsList list.list)) }
 {
-    let keys = followed.keys;
-    let first = match read_first(rt, keys) {
-        Ok(first) => first,
-        Err(fault) => return Err(tell_key_file(rt, keys.path, fault)),
+    let place = followed.keys;
+    let keys = match read_first(rt, place) {
+        Ok(keys) => keys,
+        Err(fault) => return Err(tell_key_file(rt, place.path, fault)),
     };
-    if !admit_keys(rt, keys.path, &first.read, keys.of_others) {
+    if !admit_keys(rt, place.path, &keys.read, place.of_others) {
         return Err(Status::DeviceFault);
     }
-    let revoked = match followed.list {
+    let list = match followed.list {
         Some(place) => Some(find_first_list(rt, place)?),
         None => None,
     };
-    Ok(Found { first, revoked })
+    Ok(Found {
+        followed,
+        keys,
+        list,
+    })
 }
 
 /// How a daemon comes by the paths of its sockets.
