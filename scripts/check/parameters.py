@@ -25,8 +25,6 @@ MEANT = {
     "mac_serve::inbound::Inbound::run": SERVER,
     "mac_words::saying::say_mint": "the words of a mint, one by one, and the table",
     "mac_pool::work::turn_from": SERVER,
-    "macaroond::key_watch::listen_and_watch": SERVER,
-    "macaroond::key_watch::listen_holding": SERVER,
 }
 
 
