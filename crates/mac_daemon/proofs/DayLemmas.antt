@@ -5,6 +5,7 @@ use Rattle.std.specs.declared.sync.Arc.{Arc}
 use Rattle.mac_decide.specs.declared.job.Job.{Job}
 use Rattle.mac_decide.specs.declared.macaroons.Macaroons.{Macaroons}
 use Rattle.mac_decide.specs.declared.rights.Rights.{Rights}
+use Rattle.mac_host.specs.declared.badge.Badge.{Badge}
 use Rattle.mac_pool.specs.Pool.{IsFinished, IsStarted, Slots}
 use Rattle.mac_pool.specs.declared.pool.Finished.{Finished}
 use Rattle.mac_wire.specs.declared.reply.Reply.{Reply}
@@ -14,17 +15,19 @@ use Rattle.std.proofs.lemmas.List.Elements.{All-nil}
 use Rattle.std.proofs.lemmas.List.Sums.{sum_by-append, sum_by_push}
 use Rattle.std.specs.List.{sum_by}
 use Rattle.mac_loop.specs.Gone.{HaveGone}
-use Rattle.mac_loop.specs.Leaf.{IsSettled}
 use Rattle.mac_loop.specs.Register.{came, parts, went}
 use Rattle.mac_loop.specs.declared.outcomes.Outcomes.{Outcomes}
 use Rattle.mac_loop.specs.declared.register.Admitted.{Admitted}
 use Rattle.mac_loop.specs.declared.register.Origin.{Ghosts}
 use Rattle.mac_loop.specs.declared.register.Register.{Register}
-use Rattle.mac_daemon.specs.Arrivals.{AreAdmitted, DaemonDoors, IsAdmitted, count_accepted, weigh_admitted, weigh_badges}
+use Rattle.mac_loop.specs.declared.register.Settled.{Settled}
+use Rattle.mac_loop.specs.Settled.{all_admitted, all_gone}
+use Rattle.mac_daemon.specs.Arrivals.{AreAdmitted, AreNumbered, DaemonDoors, IsAdmitted, count_accepted}
 use Rattle.mac_daemon.specs.Books.{AreBooks}
 use Rattle.mac_daemon.specs.Homes.{AreHome}
 use Rattle.mac_daemon.specs.Day.{AreAccounted, HasRegistered, IsDay, MeetsCount, weigh_gone}
 use Rattle.mac_daemon.specs.EndedLoops.{outcomes_of}
+use Rattle.mac_daemon.specs.Weights.{weigh_admitted, weigh_badges}
 use Rattle.mac_daemon.specs.declared.day.Day.{Day}
 
 module _ {O : Type 0} {origin : Ghosts O} where
@@ -63,37 +66,43 @@ module _ {O : Type 0} {origin : Ghosts O} where
   }
 
   -- whom a register that began with nobody has is accounted for
-  pub accounts : (doors : DaemonDoors) (start end : Register O origin) (day next : Day) (more : ℕ) → next.arrivals ≡ day.arrivals → next.loops ≡ day.loops
-      → came start ≡ [] → went start ≡ []
-      → HasRegistered start day more end → (AreAdmitted doors start → AreAdmitted doors end) → IsSettled (came end) (went end) → AreAccounted doors next
-  accounts doors start end day next more arrivals loops none nobody all admitted settled = record {
-    admitted = came end;
-    by_doors = admitted (subst (λ (l : List Admitted). All (IsAdmitted doors) l) (sym none) (All-nil (IsAdmitted doors)));
-    are = λ w. omega (
+  pub accounts : (doors : DaemonDoors) (start end : Register O origin) (day next : Day) (more : ℕ) (settled : Settled) → next.arrivals ≡ day.arrivals → next.loops ≡ day.loops
+      → next.settled ≡ Some settled → all_admitted settled ≡ came end → all_gone settled ≡ went end → came start ≡ [] → went start ≡ []
+      → HasRegistered start day more end → (AreAdmitted doors start → AreAdmitted doors end) → AreAccounted doors next
+  accounts doors start end day next more settled arrivals loops told is_came is_went none nobody all admitted = record {
+    settled = settled;
+    told = told;
+    by_doors = subst (λ (l : List Admitted). All (IsAdmitted doors) l) (sym is_came)
+        (admitted (subst (λ (l : List Admitted). All (IsAdmitted doors) l) (sym none) (All-nil (IsAdmitted doors))));
+    admitted = λ w. omega (
       arith,
+      ap (weigh_admitted w) is_came,
       all.came_are w,
       ap (weigh_admitted w) none,
       ap (λ a. weigh_badges w a.handed) arrivals,
       ap (λ a. weigh_badges w a.returned) arrivals,
     );
-    there = settled.there;
-    each = λ w. omega (
+    gone = λ w. omega (
       arith,
-      settled.each (λ a. w (a.number, a.socket)),
-      all.came_are w,
+      ap (weigh_admitted w) is_went,
       all.went_are w,
-      ap (weigh_admitted w) none,
       ap (weigh_admitted w) nobody,
-      ap (λ a. weigh_badges w a.handed) arrivals,
+      ap (λ a. weigh_badges w a.returned) arrivals,
       ap (λ l. sum_by (weigh_gone w) (outcomes_of l)) loops,
     );
   }
+
+-- one more is numbered behind the others
+pub numbered-push : (before : ℕ) (all : List Badge) (one : Badge) → AreNumbered before all → one.number ≡ before + length all + 1 → AreNumbered before (all ++ one ∷ [])
+numbered-push before [] one are is = (omega (arith, is), tt)
+numbered-push before (first ∷ more) one are is = (are.0, numbered-push (before + 1) more one are.1 (omega (arith, is)))
 
 -- a day is as it was, whatever else is told of it
 pub same-day : (count : Option ℕ) (loops : ℕ) (entrance : Entrance (Arc Rights Global)) (day next : Day) → next.served ≡ day.served → next.arrivals ≡ day.arrivals → next.loops ≡ day.loops
     → IsDay count loops entrance day → IsDay count loops entrance next
 same-day count many entrance day next served arrivals loops is = record {
   asked = subst (MeetsCount count) (sym served) is.asked;
+  numbered = λ within. subst (λ a. AreNumbered (taken_of entrance) a.accepted) (sym arrivals) (is.numbered (subst (λ a. taken_of entrance + count_accepted a < 2 ^ 64) arrivals within));
   counted = λ within. served ∙ is.counted (subst (λ a. taken_of entrance + count_accepted a < 2 ^ 64) arrivals within) ∙ ap (λ a. taken_of entrance + count_accepted a) (sym arrivals);
   ended = ap (λ l. length (outcomes_of l)) loops ∙ is.ended;
 }

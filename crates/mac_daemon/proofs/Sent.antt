@@ -24,6 +24,7 @@ use Rattle.mac_host.proofs.ending.Ending.TheSendSync as ending
 use Rattle.mac_loop.proofs.Sent.{loop_sent, loops_sent, loops_shared, register_field_sent}
 use Rattle.mac_loop.specs.contracts.outcomes.EndedLoop as EndedLoop
 use Rattle.mac_loop.specs.contracts.outcomes.Outcomes as Outcomes
+use Rattle.mac_loop.specs.contracts.register.Settled as Settled
 use Rattle.mac_loop.specs.declared.register.Origin.{Ghosts}
 use Rattle.mac_queue.proofs.desk.Desk.TheSendSync as desk
 use Rattle.mac_queue.specs.contracts.desk.Desk as Desk
@@ -56,6 +57,9 @@ ended_field_sent O origin sent = struct_send (shape (EndedLoop.the_type O origin
 pub ended_sent : (O : RattleType) (origin : Ghosts O.Denot) → IsSend O → IsSend (EndedLoop.the_row O origin)
 ended_sent O origin sent = recorded_send (EndedLoop.the_field O origin).row _ _ (EndedLoop.the_type O origin).to_one (ended_field_sent O origin sent)
 
+settled_field_sent : IsSend (Settled.the_field).row
+settled_field_sent = search (sendable, crosses) depth 20
+
 arrivals_field_sent : IsSend (Arrivals.the_field).row
 arrivals_field_sent = search (sendable, crosses) depth 20
 
@@ -63,7 +67,7 @@ ended_loops_field_sent : IsSend (EndedLoops.the_field).row
 ended_loops_field_sent = search (sendable, crosses) depth 20
 
 day_field_sent : IsSend (Day.the_field).row
-day_field_sent = search (sendable, crosses, arrivals_field_sent, ended_loops_field_sent) depth 20
+day_field_sent = search (sendable, crosses, arrivals_field_sent, ended_loops_field_sent, settled_field_sent) depth 20
 
 day_sent : IsSend Day.the_row
 day_sent = recorded_send (Day.the_field).row _ _ (Day.the_type).to_one day_field_sent

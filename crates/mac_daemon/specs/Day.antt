@@ -1,5 +1,5 @@
 -- What a daemon is asked for, and what it has done.
-use Rattle.std.specs.Prelude.{◌≡◌, ◌+◌, ◌^◌, ◌<◌, ℕ, All, List, Option, Some, None, length}
+use Rattle.std.specs.Prelude.{◌≡◌, ◌+◌, ◌^◌, ◌<◌, ℕ, All, Option, Some, None, length}
 use Rattle.std.specs.List.{sum_by}
 use Rattle.std.specs.declared.alloc.Global.{Global}
 use Rattle.std.specs.declared.sync.Arc.{Arc}
@@ -8,14 +8,16 @@ use Rattle.mac_host.specs.declared.badge.Socket.{Socket}
 use Rattle.mac_loop.specs.Badges.{whose}
 use Rattle.mac_loop.specs.Register.{came, parts, went}
 use Rattle.mac_loop.specs.declared.outcomes.Outcomes.{Outcomes}
-use Rattle.mac_loop.specs.declared.register.Admitted.{Admitted}
 use Rattle.mac_loop.specs.declared.register.Origin.{Ghosts}
 use Rattle.mac_loop.specs.declared.register.Register.{Register}
+use Rattle.mac_loop.specs.declared.register.Settled.{Settled}
+use Rattle.mac_loop.specs.Settled.{all_admitted, all_gone}
 use Rattle.mac_sockets.specs.Entrance.{doors_of, taken_of}
 use Rattle.mac_sockets.specs.declared.entrance.Entrance.{Entrance}
-use Rattle.mac_daemon.specs.Arrivals.{DaemonDoors, IsAdmitted, count_accepted, weigh_admitted, weigh_badges}
+use Rattle.mac_daemon.specs.Arrivals.{AreNumbered, DaemonDoors, IsAdmitted, count_accepted}
 use Rattle.mac_daemon.specs.Books.{HaveWorked}
 use Rattle.mac_daemon.specs.EndedLoops.{outcomes_of}
+use Rattle.mac_daemon.specs.Weights.{weigh_admitted, weigh_badges}
 use Rattle.mac_daemon.specs.declared.day.Day.{Day}
 
 -- where a count was set, so many connections were accepted
@@ -23,13 +25,15 @@ abbrev pub MeetsCount : Option ℕ → ℕ → Type 0
 MeetsCount None served = Unit {0}
 MeetsCount (Some count) served = served ≡ count
 
--- A daemon has served as it was asked: it accepted as many connections as it tells, behind those that
--- had come in before, as far as 64 bits count them; and each of its loops has ended, with the account of
--- those that it was given.
+-- A daemon has served as it was asked: it accepted as many connections as it tells, and they are
+-- numbered one after another, behind those that had come in before, as far as 64 bits count them; and
+-- each of its loops has ended, with its account.
 pub record IsDay (count : Option ℕ) (loops : ℕ) (entrance : Entrance (Arc Rights Global)) (day : Day) : Type 0 where
   pub asked : MeetsCount count day.served
   pub counted : taken_of entrance + count_accepted day.arrivals < 2 ^ 64
       → day.served ≡ taken_of entrance + count_accepted day.arrivals
+  pub numbered : taken_of entrance + count_accepted day.arrivals < 2 ^ 64
+      → AreNumbered (taken_of entrance) day.arrivals.accepted
   pub ended : length (outcomes_of day.loops) ≡ loops
 
 -- what those weigh that a loop has seen off: their end was told, or they were turned away
@@ -37,18 +41,17 @@ abbrev pub weigh_gone : (ℕ × Socket → ℕ) → Outcomes → ℕ
 weigh_gone weight outcomes =
     sum_by (λ life. weight (whose life.badge)) outcomes.ended + weigh_badges weight outcomes.refused
 
--- Each that was handed to a loop or came back from that was admitted: it came in by one of the doors that
--- were there, and its requests are answered under the rights that this door gives. Of those that were
--- handed to a loop, each once, some loop has told the end, or has turned it away, or it is there: however
--- connections are weighed, by their numbers and sockets.
+-- The register of all its threads was settled. Each that was admitted came in by one of the doors that
+-- were there, and under the rights that this door gives. They are those that were handed to a loop or
+-- came back from one; and those have gone that came back, whose end a loop told, or whom one turned away.
 pub record AreAccounted (doors : DaemonDoors) (day : Day) : Type 0 where
-  pub admitted : List Admitted
-  pub by_doors : All (IsAdmitted doors) admitted
-  pub are : (weight : ℕ × Socket → ℕ) → weigh_admitted weight admitted
+  pub settled : Settled
+  pub told : day.settled ≡ Some settled
+  pub by_doors : All (IsAdmitted doors) (all_admitted settled)
+  pub admitted : (weight : ℕ × Socket → ℕ) → weigh_admitted weight (all_admitted settled)
       ≡ weigh_badges weight day.arrivals.handed + weigh_badges weight day.arrivals.returned
-  pub there : List Admitted
-  pub each : (weight : ℕ × Socket → ℕ) → weigh_badges weight day.arrivals.handed
-      ≡ sum_by (weigh_gone weight) (outcomes_of day.loops) + weigh_admitted weight there
+  pub gone : (weight : ℕ × Socket → ℕ) → weigh_admitted weight (all_gone settled)
+      ≡ weigh_badges weight day.arrivals.returned + sum_by (weigh_gone weight) (outcomes_of day.loops)
 
 -- the whole day of a daemon whose workers have ended, so many, with their books
 pub record IsWholeDay (count : Option ℕ) (loops workers : ℕ) (entrance : Entrance (Arc Rights Global))

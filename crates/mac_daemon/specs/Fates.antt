@@ -1,6 +1,8 @@
 -- What becomes of a connection that came in.
 use Rattle.std.specs.Prelude.{◌≡◌, [], ◌∷◌, ◌++◌}
-use Rattle.mac_loop.specs.Register.{HasAdmitted, HasMet, came, parts, went}
+use Rattle.mac_host.specs.declared.badge.Badge.{Badge}
+use Rattle.mac_loop.specs.Badges.{whose}
+use Rattle.mac_loop.specs.Register.{HasAdmitted, HasSeenOff, StandsForMore, came, parts, went}
 use Rattle.mac_loop.specs.declared.register.Admitted.{Admitted}
 use Rattle.mac_loop.specs.declared.register.Origin.{Ghosts}
 use Rattle.mac_loop.specs.declared.register.Register.{Register}
@@ -10,17 +12,24 @@ use Rattle.mac_daemon.specs.declared.accepting.Fate.TheVariants.{Handed, Returne
 use Rattle.mac_daemon.specs.declared.accepting.Newcomer.{Newcomer}
 
 module _ {O : Type 0} {origin : Ghosts O} where
-  -- one more was admitted, and has gone
+  -- one more was admitted, and went again
   pub record HasComeBack (before : Register O origin) (one : Admitted) (after : Register O origin) : Type 0 where
     pub ledger : after.ledger ≡ before.ledger
     pub parts_are : parts after ≡ parts before
     pub came_is : came after ≡ came before ++ one ∷ []
     pub went_is : went after ≡ went before ++ one ∷ []
 
+  -- one that was admitted is in the inbox of a loop, or came back and has gone; nothing else comes of it
+  abbrev pub HasGoneOn : Badge → Admitted → Register O origin → Fate → Register O origin → Type 0
+  HasGoneOn badge one before (Handed enqueued) after = (enqueued.badge ≡ badge) × StandsForMore before 0 after
+  HasGoneOn badge one before Returned after = HasSeenOff before one after
+  HasGoneOn badge one before Refused after = ⊥
+
   -- it was admitted where it was handed to a loop, or came back; else the register is as it was
   abbrev pub HasFared : Newcomer → Register O origin → Fate → Register O origin → Type 0
-  HasFared newcomer before Handed after =
+  HasFared newcomer before (Handed enqueued) after =
       (one : Admitted) × IsNewcomer newcomer one × HasAdmitted before one after
+      × (whose enqueued.badge ≡ whose newcomer.badge)
   HasFared newcomer before Returned after =
       (one : Admitted) × IsNewcomer newcomer one × HasComeBack before one after
-  HasFared newcomer before Refused after = HasMet before 0 after
+  HasFared newcomer before Refused after = StandsForMore before 0 after

@@ -11,3 +11,4 @@ pub mod Homes
 pub mod Memory
 pub mod Room
 pub mod Serving
+pub mod Weights

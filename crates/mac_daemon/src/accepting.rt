@@ -1,12 +1,11 @@
 //! The loop that accepts the connections of sockets: so many of them, or until it is shut.
-ghost use Rattle.std.specs.Prelude.{◌≡◌, ◌≢◌, ◌<◌, length, IfOk, IfSome, IsTrue, OnErr};
+ghost use Rattle.std.specs.Prelude.{◌≡◌, ◌<◌, length, IfOk, IfSome, IsTrue, OnErr};
 ghost use Rattle.mac_daemon.specs.Arrivals.{AreAdmitted, HaveCome, IsNewcomer};
 ghost use Rattle.mac_daemon.specs.Day.{IsDay, MeetsCount};
-ghost use Rattle.mac_daemon.specs.Fates.{HasFared};
+ghost use Rattle.mac_daemon.specs.Fates.{HasFared, HasGoneOn};
 ghost use Rattle.mac_daemon.specs.Gift.{GivesAt};
-ghost use Rattle.mac_daemon.specs.declared.accepting.Fate.TheVariants.{Handed, Refused, Returned};
 ghost use Rattle.mac_host.specs.Badge.{socket_of_door};
-ghost use Rattle.mac_loop.specs.Register.{HasAdmitted, HasMet, HasSeenOff, who};
+ghost use Rattle.mac_loop.specs.Register.{HasAdmitted, StandsForMore, who};
 ghost use Rattle.mac_sockets.specs.Entrance.{doors_of, taken_of};
 
 use crate::arrivals::Arrivals;
@@ -18,8 +17,7 @@ use crate::notice::Notice;
 use crate::quay::Quay;
 use crate::room::Entry;
 use mac_host::{Badge, Life, Socket};
-use mac_loop::{Handover, Loops, Origin, Register};
-use mac_mail::History;
+use mac_loop::{Enqueued, Handover, Loops, Origin, Register};
 use mac_sockets::{Arrived, Entrance, Fresh};
 use std::alloc::Global;
 use std::io::ErrorKind;
@@ -126,6 +124,7 @@ where
 fn receive<R: Clock>(rt: &R, entrance: &Entrance<Gift>, arrived: Arrived, quay: &Quay) -> Newcomer
     requires { arrived.door < length (doors_of entrance.now) }
     ensures badge { result.badge.socket ≡ socket_of_door arrived.door }
+    ensures number { result.badge.number ≡ taken_of entrance.now }
     ensures rights { IfSome result.rights (λ gift.
         GivesAt (doors_of entrance.now) arrived.door gift.value) }
 {
@@ -148,13 +147,13 @@ fn pause<R: Wait + Clock>(rt: &R, alloc: Global, fault: io::Error, quay: &Quay) 
 }
 
 /// What becomes of a connection that came in.
-#[derive(Clone, Copy)]
+#[derive(Drop)]
 pub(crate) enum Fate {
     /// A loop has it.
-    Handed,
+    Handed(Enqueued),
     /// It was admitted, and closed, since there was no memory to hand it to a loop, or no room.
     Returned,
-    /// It was closed, since there was no memory for it.
+    /// It was closed before it was admitted: memory ran out, or the system failed.
     Refused,
 }
 
@@ -206,7 +205,7 @@ fn begin<O: Origin, R: Wait + Clock>(
         }
     };
     let fate = hand(rt, fleet.loops, None, client, register);
-    if let Fate::Returned = fate {
+    if matches!(fate, Fate::Returned) {
         fleet.quay.refuse(rt, life, Notice::NoMemory);
     }
     fate
@@ -219,10 +218,11 @@ fn meet<O: Origin>(
     quay: &Quay,
     register: &mut Register<O>,
 ) -> Result<Handover<O>, Notice>
+    ensures badge { IfOk result (λ client. client.badge ≡ newcomer.badge) }
     ensures one { IfOk result (λ client. IsNewcomer newcomer (who client.presence)) }
     ensures admitted { IfOk result (λ client.
         HasAdmitted register.old (who client.presence) register.new) }
-    ensures same { OnErr result (HasMet register.old 0 register.new) }
+    ensures same { OnErr result (StandsForMore register.old 0 register.new) }
 {
     let Newcomer {
         stream,
@@ -240,7 +240,7 @@ fn meet<O: Origin>(
 }
 
 /// Hands a client to the first loop, or to one of which a client of a socket is to give way to it.
-/// Where none takes it, it goes.
+/// Where none takes it, it is closed.
 fn hand<O: Origin, R: Wait>(
     rt: &R,
     loops: &Loops<O>,
@@ -248,18 +248,14 @@ fn hand<O: Origin, R: Wait>(
     client: Handover<O>,
     register: &mut Register<O>,
 ) -> Fate
-    ensures handed { result ≡ Handed → HasMet register.old 0 register.new }
-    ensures returned { result ≡ Returned
-        → HasSeenOff register.old (who client.presence) register.new }
-    ensures never { result ≢ Refused }
+    ensures { HasGoneOn client.badge (who client.presence) register.old result register.new }
 {
-    let mut noted = History::new();
     let left = match gives_way {
-        None => loops.hand(rt, FIRST_LOOP, client, &mut noted),
-        Some(socket) => loops.hand_displacing(rt, socket, client, &mut noted),
+        None => loops.hand(rt, FIRST_LOOP, client),
+        Some(socket) => loops.hand_displacing(rt, socket, client),
     };
     match left {
-        Ok(()) => Fate::Handed,
+        Ok(enqueued) => Fate::Handed(enqueued),
         Err(client) => {
             client.leave(register);
             Fate::Returned

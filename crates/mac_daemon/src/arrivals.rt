@@ -1,6 +1,7 @@
 //! What becomes of the connections that a daemon accepts.
 
-ghost use Rattle.std.specs.Prelude.{◌≡◌, ◌+◌, [], length};
+ghost use Rattle.std.specs.Prelude.{◌≡◌, [], ◌∷◌, ◌++◌};
+ghost use Rattle.mac_daemon.specs.Weights.{AreSorted};
 
 use crate::accepting::{Fate, Newcomer, enter};
 use crate::fleet::Fleet;
@@ -16,15 +17,15 @@ use std::time::Clock;
 pub(crate) struct Arrivals {
     accepted: History<Badge>,
     handed: History<Badge>,
-    // Those that were admitted, and then no loop had memory for.
+    // Those that were admitted, and then no loop had memory or room for.
     returned: History<Badge>,
-    // Those that weren't admitted, for want of memory.
+    // Those that weren't admitted: memory ran out, or the system failed.
     refused: History<Badge>,
-    ghost accounted: { length accepted ≡ length handed + length returned + length refused },
+    ghost sorted: { AreSorted accepted handed returned refused },
 }
 
 impl Arrivals {
-    ghost use Rattle.mac_daemon.specs.Arrivals.{KeepsRegister, count_accepted};
+    ghost use Rattle.mac_daemon.specs.Arrivals.{KeepsRegister};
 
     /// No connection was accepted.
     pub(crate) fn none() -> Arrivals
@@ -48,13 +49,13 @@ impl Arrivals {
         register: &mut Register<O>,
         fleet: &Fleet<'_, O>,
     )
-        ensures accepted { count_accepted self.new ≡ count_accepted self.old + 1 }
+        ensures accepted { self.new.accepted ≡ self.old.accepted ++ newcomer.badge ∷ [] }
         ensures registered { KeepsRegister newcomer self.old register.old self.new register.new }
     {
         let badge = newcomer.badge;
         self.accepted.add(&badge);
         match enter(rt, newcomer, register, fleet) {
-            Fate::Handed => self.handed.add(&badge),
+            Fate::Handed(enqueued) => self.handed.add(enqueued.badge()),
             Fate::Returned => self.returned.add(&badge),
             Fate::Refused => self.refused.add(&badge),
         }

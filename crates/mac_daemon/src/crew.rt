@@ -32,7 +32,7 @@ impl<O: Origin> Crew<O> {
         self.made.len()
     }
 
-    /// Loops that are made of this, and the register of this ledger and its book.
+    /// Makes the loops of these parts, and the register from this ledger and its book.
     pub fn make<R: Net + Wait>(
         rt: &R,
         alloc: Global,

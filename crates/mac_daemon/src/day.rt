@@ -5,7 +5,7 @@ use crate::door::Gift;
 use crate::ended_loops::EndedLoops;
 use crate::fault::DaemonFault;
 use mac_decide::Macaroons;
-use mac_loop::Outcomes;
+use mac_loop::{Outcomes, Settled};
 use mac_pool::Finished;
 use mac_sockets::Entrance;
 use std::snapshot::Snapshot;
@@ -22,6 +22,8 @@ pub struct Day {
     pub(crate) arrivals: Arrivals,
     /// What became of those that each of its loops was given.
     pub(crate) loops: EndedLoops,
+    /// Whom it admitted and who has gone, once all its threads have ended.
+    pub(crate) settled: Option<Settled>,
     /// What its workers left behind, once they have ended.
     pub(crate) books: Option<Finished<Macaroons>>,
 }
@@ -43,6 +45,7 @@ impl Day {
             faults: 0,
             arrivals,
             loops: EndedLoops::none(),
+            settled: None,
             books: None,
         }
     }

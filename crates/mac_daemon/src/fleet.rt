@@ -212,7 +212,7 @@ where
         unreachable!()
     };
     let mut day = day?;
-    register.settle();
+    day.settled = Some(register.settle());
     day.faults = quay.faults();
     day.books = Some(books);
     Ok(day)

@@ -7,7 +7,7 @@ ghost use Rattle.mac_daemon.specs.Crew.{count_crew};
 ghost use Rattle.mac_daemon.specs.Day.{IsWholeDay};
 ghost use Rattle.mac_daemon.specs.Serving.{Promises};
 ghost use Rattle.mac_loop.specs.Ledger.{IsFreshBook, all_books, name_of};
-ghost use Rattle.mac_sockets.specs.Entrance.{doors_of, opened, taken_of};
+ghost use Rattle.mac_sockets.specs.Entrance.{opened, taken_of};
 
 use crate::crew::{Crew, open_ledger};
 use crate::day::{Admission, Day};
@@ -277,7 +277,7 @@ where
     start_thread(rt, alloc, service, crew)
 }
 
-/// The same, with these loops.
+/// Starts the thread that runs these loops, with the promise of what it serves.
 fn start_thread<O, R>(
     rt: R,
     alloc: Global,

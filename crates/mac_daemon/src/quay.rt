@@ -70,7 +70,8 @@ impl Quay {
     /// What the connection of this number is known by, which came in now at this socket. It has no
     /// place in the list yet.
     pub fn badge<R: Clock>(&self, rt: &R, number: u64, socket: Socket) -> Badge
-        ensures { result.socket ≡ socket }
+        ensures number { result.number ≡ number }
+        ensures socket { result.socket ≡ socket }
     {
         Badge {
             number,

@@ -1,4 +1,4 @@
--- Each step of a book or a ticket keeps the balance of the ledger.
+-- Each step of a book or an entry keeps the balance of the ledger.
 use Rattle.std.proofs.Common.{◌≡◌, ◌≢◌, ℕ, ◌+◌, ◌<◌, List, [], ◌∷◌, ◌++◌, set, sym, refl, ap, arith, subst, ⊎_elim, ◌∙◌}
 use Rattle.std.proofs.lemmas.List.Sums.{sum_by-cons, sum_by-append, sum_by_push}
 use Rattle.std.specs.List.{sum_by, flat_map}
@@ -121,7 +121,7 @@ module _ {T : Type 0} where
       let others = total_nothing f books (set views seat spent) (λ i v e none. nothing v (quiet-set views seat spent quiet all i v e) none) (omega (arith, books_left, every)) in
       omega (arith, left, others, nothing spent quiet refl)
 
-  -- what tickets stand for
+  -- what entries stand for
   there_all : (w : T → ℕ) (views : List (Leaf T)) → sum_by w (flat_map (λ (a : Leaf T). a.there) views) ≡ sum_by (there w) views
   there_all w [] = refl
   there_all w (a ∷ views) = omega (arith, sum_by-append w a.there (flat_map (λ (b : Leaf T). b.there) views), sum_by-cons (there w) a views, there_all w views)

@@ -3,18 +3,14 @@ use Rattle.std.specs.Prelude.{◌≡◌, ℕ, ◌+◌, List, [], ◌∷◌}
 use Rattle.std.specs.List.{sum_by}
 use mathlib.Core.Option.{Option, none, some}
 use lib.ListN.{get_elem?}
+use Rattle.mac_queue.specs.Lists.{IsSplitInto}
 use Rattle.mac_loop.specs.declared.ledger.Leaf.{Leaf}
 
 module _ {T : Type 0} where
   abbrev pub leaf : ℕ → (entered gone there : List T) → Leaf T
   leaf books entered gone there = record { books = books; entered = entered; gone = gone; there = there }
 
-  -- the list holds each as often as the other two together: however they are weighed, the weights agree
-  abbrev pub IsSplitInto : List T → List T → List T → Type 0
-  IsSplitInto whole one other =
-      (weight : T → ℕ) → sum_by weight whole ≡ sum_by weight one + sum_by weight other
-
-  -- what has gone is some of what entered, each as often at most: the rest is there
+  -- what has gone had entered, each as often at most; the rest counts as there
   pub record IsSettled (entered gone : List T) : Type 0 where
     pub there : List T
     pub each : IsSplitInto entered gone there

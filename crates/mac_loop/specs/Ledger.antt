@@ -22,7 +22,7 @@ module _ {T : Type 0} where
   abbrev pub gone_of : LedgerBook T → List T
   gone_of book = book.seat.me.0.gone
 
-  -- how many books it is
+  -- for how many books it stands
   abbrev pub books_of : LedgerBook T → ℕ
   books_of book = book.seat.me.0.books
 
@@ -34,7 +34,7 @@ module _ {T : Type 0} where
   abbrev pub IsEntryOf : Ledger T → LedgerEntry T → Type 0
   IsEntryOf ledger entry = entry.seat.table_id ≡ name_of ledger
 
-  -- one and the same book of so many
+  -- the same book: one of the same ledger, which stands for as many
   abbrev pub IsSameBook : LedgerBook T → LedgerBook T → Type 0
   IsSameBook before after =
       (after.seat.table_id ≡ before.seat.table_id) × (books_of after ≡ books_of before)
@@ -58,7 +58,7 @@ module _ {T : Type 0} where
     pub entered : entered_of after ≡ entered_of before
     pub gone : gone_of after ≡ gone_of before ++ entry ∷ []
 
-  -- it is one book less
+  -- it stands for one book less
   pub record HasParted (before after : LedgerBook T) : Type 0 where
     pub of : after.seat.table_id ≡ before.seat.table_id
     pub books : books_of after + 1 ≡ books_of before

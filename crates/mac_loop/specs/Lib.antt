@@ -14,6 +14,7 @@ pub mod Reason
 pub mod Register
 pub mod Resting
 pub mod Roll
+pub mod Settled
 pub mod SocketQueues
 pub mod Told
 pub mod Unsent

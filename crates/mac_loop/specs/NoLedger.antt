@@ -1,4 +1,4 @@
--- A name for no ledger.
+-- A name for no ledger: what `Brand` has where a call picks none of its own.
 use Rattle.std.specs.Prelude.{[]}
 use Rattle.atomic_table.specs.Seated.{TableId}
 

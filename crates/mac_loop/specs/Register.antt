@@ -27,7 +27,7 @@ module _ {O : Type 0} {origin : Ghosts O} where
   abbrev pub went : Register O origin → List Admitted
   went register = gone_of register.book
 
-  -- how many threads' it is
+  -- for how many threads it stands
   abbrev pub parts : Register O origin → ℕ
   parts register = books_of register.book
 
@@ -35,14 +35,14 @@ module _ {O : Type 0} {origin : Ghosts O} where
   abbrev pub who : Presence O origin → Admitted
   who presence = presence.entry.entry.value
 
-  -- a thread's, by which nobody was admitted and has gone
+  -- one thread's part, which has admitted nobody and seen nobody off
   pub record IsBegun (register : Register O origin) : Type 0 where
     pub one : parts register ≡ 1
     pub came_is : came register ≡ []
     pub went_is : went register ≡ []
 
-  -- the same but for that it is of so many threads more
-  pub record HasMet (before : Register O origin) (more : ℕ) (after : Register O origin) : Type 0 where
+  -- unchanged, but that it stands for so many threads more
+  pub record StandsForMore (before : Register O origin) (more : ℕ) (after : Register O origin) : Type 0 where
     pub ledger : after.ledger ≡ before.ledger
     pub parts_are : parts after ≡ parts before + more
     pub came_is : came after ≡ came before

@@ -33,14 +33,21 @@ pub struct EndedLife {
 /// A connection of a daemon that has ended, and was admitted there.
 #[derive(Drop)]
 pub struct Leaver<O: Origin> {
+    /// What it has come to.
     pub ended: EndedLife,
+    /// That it was there.
     pub presence: Presence<O>,
     ghost called: { IsCalled (who presence) ended.life.badge ended.rights.value },
 }
 
 impl<O: Origin> Leaver<O> {
+    ghost use Rattle.std.specs.Prelude.{Some};
+    ghost use Rattle.mac_loop.specs.Alive.{EndsWell};
+
     /// A client on which nothing more is to be done.
-    pub fn of(member: Member<O>) -> Leaver<O> {
+    pub fn of(member: Member<O>) -> Leaver<O>
+        ensures well { EndsWell member.client → result.ended.fault ≡ None }
+    {
         let life = member.life();
         let fault = PlainFault::of(&member.client);
         let Member {
@@ -59,7 +66,9 @@ impl<O: Origin> Leaver<O> {
     }
 
     /// A client that is ended by a fault.
-    pub fn by(member: Member<O>, fault: PlainFault) -> Leaver<O> {
+    pub fn by(member: Member<O>, fault: PlainFault) -> Leaver<O>
+        ensures fault { result.ended.fault ≡ Some fault }
+    {
         let life = member.life();
         let Member {
             client,
@@ -77,7 +86,9 @@ impl<O: Origin> Leaver<O> {
     }
 
     /// A connection that no loop takes, by a fault.
-    pub fn on_the_way(client: Handover<O>, fault: PlainFault) -> Leaver<O> {
+    pub fn on_the_way(client: Handover<O>, fault: PlainFault) -> Leaver<O>
+        ensures fault { result.ended.fault ≡ Some fault }
+    {
         let life = client.life();
         let Handover {
             port,

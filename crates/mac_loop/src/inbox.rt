@@ -1,6 +1,6 @@
 //! What loops share: where each gets clients from, how busy each is, and what is unsent on all.
 
-ghost use Rattle.std.specs.Prelude.{◌≡◌, ◌++◌, ◌∷◌, [], IfErr, IfNone, IfSome, OnErr, OnOk};
+ghost use Rattle.std.specs.Prelude.{◌≡◌, ◌++◌, ◌∷◌, [], IfErr, IfNone, IfOk, IfSome};
 ghost use Rattle.mac_loop.specs.Register.{who};
 
 use crate::backlog::Backlog;
@@ -50,6 +50,21 @@ struct Stalest {
 struct Displacing {
     main: AtomicUsize,
     side: AtomicUsize,
+}
+
+/// Shows that a client is in the inbox of a loop: nothing but [`Loops::hand`] makes one.
+#[derive(Drop)]
+pub struct Enqueued {
+    badge: Badge,
+}
+
+impl Enqueued {
+    /// What the client is known by.
+    pub fn badge(&self) -> &Badge
+        ensures { result.now ≡ self.now.badge }
+    {
+        &self.badge
+    }
 }
 
 /// A loop, as others see it.
@@ -143,16 +158,14 @@ impl<O: Origin> Loops<O> {
         self.sides.len()
     }
 
-    /// Hands a client to a loop, and notes that. Without memory it comes back.
+    /// Hands a client to a loop. Without memory it comes back.
     pub fn hand<R: Wait>(
         &self,
         rt: &R,
         number: usize,
         client: Handover<O>,
-        handed: &mut History<Badge>,
-    ) -> Result<(), Handover<O>>
-        ensures handed { OnOk result (handed.new ≡ handed.old ++ client.badge ∷ []) }
-        ensures same { OnErr result (handed.new ≡ handed.old) }
+    ) -> Result<Enqueued, Handover<O>>
+        ensures handed { IfOk result (λ enqueued. enqueued.badge ≡ client.badge) }
         ensures back { IfErr result (λ back. back ≡ client) }
     {
         let Some(side) = self.sides.get(number) else {
@@ -160,14 +173,13 @@ impl<O: Origin> Loops<O> {
         };
         let badge = client.badge;
         side.waiting.fetch_add(1, SeqCst);
-        let pushed = side.inbox.push(rt, client);
-        match pushed {
-            Ok(()) => handed.add(&badge),
-            Err(_) => {
+        match side.inbox.push(rt, client) {
+            Ok(()) => Ok(Enqueued { badge }),
+            Err(client) => {
                 side.waiting.fetch_sub(1, SeqCst);
+                Err(client)
             }
         }
-        pushed
     }
 
     /// Waits while more clients wait for a loop than it takes in between two turns.
@@ -190,10 +202,8 @@ impl<O: Origin> Loops<O> {
         rt: &R,
         socket: Socket,
         client: Handover<O>,
-        handed: &mut History<Badge>,
-    ) -> Result<(), Handover<O>>
-        ensures handed { OnOk result (handed.new ≡ handed.old ++ client.badge ∷ []) }
-        ensures same { OnErr result (handed.new ≡ handed.old) }
+    ) -> Result<Enqueued, Handover<O>>
+        ensures handed { IfOk result (λ enqueued. enqueued.badge ≡ client.badge) }
         ensures back { IfErr result (λ back. who back.presence ≡ who client.presence) }
     {
         let (number, since) = self.stalest(socket);
@@ -208,7 +218,7 @@ impl<O: Origin> Loops<O> {
         }
         let mut client = client;
         client.displaces = Some(socket);
-        let left = self.hand(rt, number, client, handed);
+        let left = self.hand(rt, number, client);
         if left.is_err() {
             displacing.fetch_sub(1, SeqCst);
         }

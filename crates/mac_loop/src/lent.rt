@@ -12,8 +12,11 @@ use mac_plain::Client;
 /// What a loop keeps of a slot whose client is in a turn.
 #[derive(Drop)]
 pub struct Lent<O: Origin> {
+    /// The slot.
     pub slot: usize,
+    /// What the loop knows of the client.
     pub note: Note,
+    /// That the client is there.
     pub presence: Presence<O>,
     pub ghost noted: { IsNoted (who presence) note.badge },
 }

@@ -67,8 +67,11 @@ const DROPPED_MICROS: u64 = 100_000;
 /// What a slot of a loop holds: a client, of whom all that came and went on its socket is known.
 #[derive(Drop)]
 pub struct Member<O: Origin> {
+    /// The client.
     pub client: Client<SocketPort>,
+    /// What the loop knows of it besides.
     pub note: Note,
+    /// That it is there.
     pub presence: Presence<O>,
     pub ghost lives: { IsAlive client },
     pub ghost called: { IsCalled (who presence) note.badge client.rights.value },

@@ -80,8 +80,8 @@ impl<O: Origin> Leavers<O> {
         watch.end(rt, ended, &mut self.ended);
     }
 
-    /// One has ended, or nobody, in whose place a client comes, which is told. What that is known
-    /// by, where there is room for it.
+    /// Tells the end of the one that gave way, if one did, and counts the newcomer in. Its badge,
+    /// where there was room for it.
     pub fn displace<R: Wait + Clock, W: Watch>(
         &mut self,
         rt: &R,

@@ -1,7 +1,7 @@
 //! The connections of a daemon, as its threads note them: who came in, and who has gone.
 
 ghost use Rattle.std.specs.Prelude.{◌≡◌, ◌+◌, ◌<◌, ◌++◌, IfOk, OnErr, OnOk};
-ghost use Rattle.mac_loop.specs.Ledger.{IsOf, all_books, name_of};
+ghost use Rattle.mac_loop.specs.Ledger.{IsOf, all_books, entered_of, gone_of, name_of};
 ghost use Rattle.mac_loop.specs.Leaf.{IsSettled};
 
 use crate::ledger::{Ledger, LedgerBook, LedgerEntry};
@@ -12,7 +12,8 @@ use std::marker::{Brand, PhantomData};
 use std::snapshot::Snapshot;
 use std::sync::Arc;
 
-/// Which daemon connections are of: its ledger.
+/// Stands in a type for one daemon's ledger, which is known only once the daemon runs: whoever opens
+/// the ledger picks it for [`Brand`] at a call.
 pub trait Origin {
     ghost use Rattle.atomic_table.specs.Seated.{TableId};
 
@@ -54,11 +55,21 @@ pub struct Register<O: Origin> {
     ghost of: { (name_of ledger.value ≡ O.ledger) × (book.seat.table_id ≡ O.ledger) },
 }
 
-impl<O: Origin> Register<O> {
-    ghost use Rattle.mac_loop.specs.Register.{HasAdmitted, HasMet, HasSeenOff, IsBegun, IsCalled};
-    ghost use Rattle.mac_loop.specs.Register.{came, parts, went, who};
+/// Whom a daemon admitted, and who has gone, as all its threads noted it. Who has gone had been
+/// admitted, each as often at most; the others count as there, also one that was dropped. It takes
+/// no room.
+#[derive(Drop)]
+pub struct Settled {
+    book: Snapshot<LedgerBook<Admitted>>,
+    ghost settled: { ∥ IsSettled (entered_of book.value) (gone_of book.value) ∥₁ },
+}
 
-    /// That of a ledger of which this is the book.
+impl<O: Origin> Register<O> {
+    ghost use Rattle.mac_loop.specs.Register.{HasAdmitted, HasSeenOff, IsBegun, IsCalled, StandsForMore};
+    ghost use Rattle.mac_loop.specs.Register.{came, parts, went, who};
+    ghost use Rattle.mac_loop.specs.Settled.{all_admitted, all_gone};
+
+    /// The register of this ledger, with this book.
     pub fn of(ledger: Arc<Ledger<Admitted>, Global>, book: LedgerBook<Admitted>) -> Register<O>
         requires ledger { name_of ledger.value ≡ O.ledger }
         requires book { IsOf ledger.value book }
@@ -100,8 +111,8 @@ impl<O: Origin> Register<O> {
     /// Another thread's, where this one stands for more than one.
     pub fn part(&mut self) -> Result<Register<O>, AllocError>
         requires { 1 < parts self.old }
-        ensures same { OnErr result (HasMet self.old 0 self.new) }
-        ensures left { OnOk result (HasMet self.new 1 self.old) }
+        ensures same { OnErr result (StandsForMore self.old 0 self.new) }
+        ensures left { OnOk result (StandsForMore self.new 1 self.old) }
         ensures begun { IfOk result IsBegun }
     {
         let ledger = Arc::try_clone(&self.ledger)?;
@@ -128,11 +139,11 @@ impl<O: Origin> Register<O> {
         self.ledger.join(&mut self.book, book);
     }
 
-    /// Once all threads' are one again: who has gone was admitted, each once, and the others are
-    /// there.
-    pub fn settle(self)
+    /// Once all threads' are one again: who was admitted, and who of them has gone.
+    pub fn settle(self) -> Settled
         requires { parts self ≡ all_books self.ledger.value }
-        ensures { IsSettled (came self) (went self) }
+        ensures admitted { all_admitted result ≡ came self }
+        ensures gone { all_gone result ≡ went self }
     {
         let Register {
             ledger,
@@ -140,5 +151,8 @@ impl<O: Origin> Register<O> {
             origin: _,
         } = self;
         ledger.settle(&mut book);
+        Settled {
+            book: Snapshot::of(&book),
+        }
     }
 }

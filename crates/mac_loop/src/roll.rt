@@ -359,8 +359,9 @@ impl<O: Origin> Roll<O> {
         self.backlog.subtract(member.client.unsent());
         let client = member.part(outlook);
         let _ = client.port.stream().leave(self.connections.registry());
-        if let Err(client) = loops.hand(rt, number, client, &mut self.handed) {
-            self.newcomer = Some(client);
+        match loops.hand(rt, number, client) {
+            Ok(enqueued) => self.handed.add(enqueued.badge()),
+            Err(client) => self.newcomer = Some(client),
         }
     }
 

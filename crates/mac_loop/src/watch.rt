@@ -47,7 +47,8 @@ pub enum PlainFault {
 impl PlainFault {
     /// The fault that a client ended in, on which nothing more is to be done.
     pub fn of(client: &Client<SocketPort>) -> Option<PlainFault>
-        ensures { result ≡ None → EndsWell client.now }
+        ensures well { result ≡ None → EndsWell client.now }
+        ensures only { EndsWell client.now → result ≡ None }
     {
         match client.course() {
             Course::Open | Course::Held | Course::Wide | Course::Awaiting(_) => {

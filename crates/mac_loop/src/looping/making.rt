@@ -2,7 +2,7 @@
 //! its proof costs.
 
 ghost use Rattle.std.specs.Prelude.{◌≡◌, ◌<◌, IfOk, OnOk, length};
-ghost use Rattle.mac_loop.specs.Register.{HasMet, IsBegun, parts as parts_of};
+ghost use Rattle.mac_loop.specs.Register.{IsBegun, StandsForMore, parts as parts_of};
 
 use crate::backlog::Backlog;
 use crate::handover::Handover;
@@ -27,7 +27,7 @@ pub fn make_loops<O: Origin, R: Net + Wait>(
 ) -> Result<(Arc<Loops<O>, Global>, Vec<Box<Loop<O>>>), WaitFault>
     requires { parts.now.terms.count < parts_of register.old }
     ensures count { IfOk result (λ made. length made.1.items ≡ parts.now.terms.count) }
-    ensures left { OnOk result (HasMet register.new parts.now.terms.count register.old) }
+    ensures left { OnOk result (StandsForMore register.new parts.now.terms.count register.old) }
 {
     let terms = parts.terms;
     let mut loops = Loops::new(alloc, terms.may_share, terms.memory);

@@ -1,5 +1,6 @@
-use Rattle.std.proofs.Common.{◌≡◌, ◌+◌, ◌-◌, ◌^◌, ◌∙◌, ℕ, min, Result, Ok, Err, Some, subst, arith}
-use Rattle.mac_daemon.specs.Arrivals.{DaemonDoors, IsArrived}
+use Rattle.std.proofs.Common.{◌≡◌, ◌+◌, ◌-◌, ◌^◌, ◌∙◌, ◌∷◌, [], ℕ, ap, length, length-append, min, Result, Ok, Err, Some, subst, sym, arith}
+use Rattle.mac_daemon.specs.Arrivals.{AreNumbered, DaemonDoors, IsArrived}
+use Rattle.mac_daemon.proofs.DayLemmas.{numbered-push}
 use Rattle.mac_sockets.specs.Entrance.{CountsArrived, doors_of, taken_of}
 use Rattle.mac_sockets.specs.declared.entrance.Arrived.{Arrived}
 use Rattle.mac_daemon.proofs.accepting.accept_each.Goals as goal
@@ -19,8 +20,12 @@ loop-preserved-in-Some-Ok g c =
       rights = c.receive-newcomer.ensures.rights;
     } in
     let counts : taken_of now ≡ min (taken_of c.loop.entrance + 1) (2 ^ 64 - 1) = one_more c.in-Some-Ok.field-0 c.in-Some-Ok.arrived _ _ c.in-Some-Ok.field-0-is c.in-Some-Ok.ensures.counts in
+    let longer : length c.enter.new.self.accepted ≡ length c.loop.arrivals.accepted + 1 = ap length c.enter.ensures.accepted ∙ length-append c.loop.arrivals.accepted (c.receive-newcomer.result.badge ∷ []) in
     record {
-      counted = λ within. omega (arith, within, c.loop.invariant.counted, counts, c.enter.ensures.accepted);
+      counted = λ within. omega (arith, within, c.loop.invariant.counted, counts, longer);
+      numbered = λ within. subst (AreNumbered _) (sym c.enter.ensures.accepted) (numbered-push _ _ _
+          (c.loop.invariant.numbered (omega (arith, within, longer)))
+          (omega (arith, within, c.loop.invariant.counted, counts, c.receive-newcomer.ensures.number, longer)));
       doors = same;
       come = c.enter.ensures.registered.have_come c.args.register.now c.loop.invariant.come;
       admitted = λ first. c.enter.ensures.registered.admitted (doors_of c.args.entrance.now) arrived (c.loop.invariant.admitted first);

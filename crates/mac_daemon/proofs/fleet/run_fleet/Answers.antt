@@ -11,7 +11,7 @@ unreachable-requires g c =
 pub returns : goal.returns
 returns g c = record {
   served = same-day _ _ _ c.in_ok-day.day _ refl refl refl c.in_ok-day.ensures.day;
-  accounted = accounts (doors_of c.args.parts.entrance) c.args.crew.register c.run_loops-day.new.register c.in_ok-day.day _ _ refl refl c.args.crew.fresh.0 c.args.crew.fresh.1
-      c.in_ok-day.ensures.registered c.in_ok-day.ensures.admitted c.settle.ensures;
+  accounted = accounts (doors_of c.args.parts.entrance) c.args.crew.register c.run_loops-day.new.register c.in_ok-day.day _ _ c.settle.result refl refl refl c.settle.ensures.admitted c.settle.ensures.gone
+      c.args.crew.fresh.0 c.args.crew.fresh.1 c.in_ok-day.ensures.registered c.in_ok-day.ensures.admitted;
   worked = works _ _ _ _ c.in_ok-pool.ensures.started c.run_loops-day.ensures.home c.in-Ok.ensures.finished;
 }

@@ -9,7 +9,7 @@ pub invariant_of-ended : goal.invariant_of-ended
 invariant_of-ended g c = record {
   said = subst (λ parts. ∥ Said parts.1.value parts.0.came parts.0.went ∥₁) (sym c.end-port.ensures) (speaks c.args.member.client c.args.member.lives);
   all = λ well. subst (λ parts. ∥ HasEndedWell parts.1.value parts.0.came parts.0.went ∥₁) (sym c.end-port.ensures)
-      (speaks-all c.args.member.client (c.of-fault.ensures well) c.args.member.lives);
+      (speaks-all c.args.member.client (c.of-fault.ensures.well well) c.args.member.lives);
 }
 
 pub invariant_of-result : goal.invariant_of-result
