@@ -51,7 +51,7 @@ pub record IsNewcomer (newcomer : Newcomer) (one : Admitted) : Type 0 where
   pub under : one.rights.value ≡ gift.value
 
 -- After these arrivals the register has the same parts. Since the start those came in that were handed
--- to a loop or came back from one, and those went that came back.
+-- to a loop or that no inbox took, and the latter went.
 pub record HaveCome {O : Type 0} {origin : Ghosts O} (start : Register O origin) (arrivals : Arrivals)
     (register : Register O origin) : Type 0 where
   pub ledger : register.ledger ≡ start.ledger

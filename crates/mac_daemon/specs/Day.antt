@@ -42,8 +42,8 @@ weigh_gone weight outcomes =
     sum_by (λ life. weight (whose life.badge)) outcomes.ended + weigh_badges weight outcomes.refused
 
 -- The register of all its threads was settled. Each that was admitted came in by one of the doors that
--- were there, and under the rights that this door gives. They are those that were handed to a loop or
--- came back from one; and those have gone that came back, whose end a loop told, or whom one turned away.
+-- were there, and has the rights that this door gives. They are those that were handed to a loop and
+-- those that no inbox took; the latter have gone, and those whose end a loop told or whom one turned away.
 pub record AreAccounted (doors : DaemonDoors) (day : Day) : Type 0 where
   pub settled : Settled
   pub told : day.settled ≡ Some settled

@@ -19,13 +19,15 @@ module _ {O : Type 0} {origin : Ghosts O} where
     pub came_is : came after ≡ came before ++ one ∷ []
     pub went_is : went after ≡ went before ++ one ∷ []
 
-  -- one that was admitted is in the inbox of a loop, or came back and has gone; nothing else comes of it
+  -- one that was admitted was put into the inbox of a loop, or came back and has gone; nothing else
+  -- comes of it
   abbrev pub HasGoneOn : Badge → Admitted → Register O origin → Fate → Register O origin → Type 0
   HasGoneOn badge one before (Handed enqueued) after = (enqueued.badge ≡ badge) × StandsForMore before 0 after
   HasGoneOn badge one before Returned after = HasSeenOff before one after
   HasGoneOn badge one before Refused after = ⊥
 
-  -- it was admitted where it was handed to a loop, or came back; else the register is as it was
+  -- it was admitted where it was handed to a loop, under its own number and socket, or came back; else
+  -- the register is as it was
   abbrev pub HasFared : Newcomer → Register O origin → Fate → Register O origin → Type 0
   HasFared newcomer before (Handed enqueued) after =
       (one : Admitted) × IsNewcomer newcomer one × HasAdmitted before one after

@@ -149,7 +149,7 @@ fn pause<R: Wait + Clock>(rt: &R, alloc: Global, fault: io::Error, quay: &Quay) 
 /// What becomes of a connection that came in.
 #[derive(Drop)]
 pub(crate) enum Fate {
-    /// A loop has it.
+    /// It was put into the inbox of a loop.
     Handed(Enqueued),
     /// It was admitted, and closed, since there was no memory to hand it to a loop, or no room.
     Returned,

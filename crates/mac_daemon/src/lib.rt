@@ -2,8 +2,8 @@
 //!
 //! One thread accepts them ([`listen`]) and hands each to a loop of `mac_loop`, which answers what
 //! it reads. What is too dear for that the loop puts into the workers' line from a desk of its own,
-//! and the connection waits in its slot for the answer. A daemon that ends by itself tells its [`Day`]:
-//! whom it admitted, and who of them has gone.
+//! and the connection waits in its slot for the answer. A daemon that ends by itself tells its
+//! [`Day`]: whom it admitted, and who of them has gone.
 #![tactic(auto)]
 
 mod accepting;

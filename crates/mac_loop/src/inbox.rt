@@ -52,7 +52,7 @@ struct Displacing {
     side: AtomicUsize,
 }
 
-/// Shows that a client is in the inbox of a loop: nothing but [`Loops::hand`] makes one.
+/// Shows that a client was put into the inbox of a loop: nothing but [`Loops::hand`] makes one.
 #[derive(Drop)]
 pub struct Enqueued {
     badge: Badge,

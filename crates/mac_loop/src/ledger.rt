@@ -1,4 +1,4 @@
-//! A ledger: what came in at one thread and went out at another, each once.
+//! A ledger: what came in at some thread, and what of it went out at any.
 
 ghost use Rattle.std.specs.Prelude.{◌≡◌, ◌<◌, [], ◌∷◌, IfOk};
 ghost use Rattle.mac_loop.specs.Leaf.{IsSettled, leaf};
@@ -106,7 +106,7 @@ impl<T> Play<T, Leaf<T>> for Settles {
 type Leaves<T> = Table<T, Leaf<T>, usize, InBalance, Global>;
 
 /// What came in and what has gone. It is told by books, one of each thread, and by an entry for each
-/// that is there. These take no room, and what is noted in them costs a step on one word.
+/// that is there. These take no room. What comes in costs two steps on one word, and what goes one.
 #[derive(Drop)]
 pub struct Ledger<T> {
     leaves: Leaves<T>,
@@ -193,7 +193,7 @@ impl<T> Ledger<T> {
         shared.join_seat::<Sums>(&mut book.seat, seat);
     }
 
-    /// Once all books are one again: what has gone had come in, each once, and the rest is there.
+    /// Once all books are one again: what has gone had come in, each as often at most.
     pub fn settle(&self, book: &mut LedgerBook<T>)
         requires of { IsOf self.now book.old }
         requires all { books_of book.old ≡ all_books self.now }

@@ -29,8 +29,8 @@ abbrev pub with_list : Table → Option FirstList → Table
 with_list table None = table
 with_list table (Some found) = record table { revoked = found.list }
 
--- a board begins with the table that the files gave first, and each file is known as it was found
--- last
+-- a board begins with the keys and the list that the files gave first, and each file is known as it
+-- was found behind its first read
 pub record BeginsWith {R : Type 0} (found : Found) (editor : Editor R) : Type 0 where
   pub put_up : tables_of editor ≡ with_list found.keys.read.table found.list ∷ []
   pub keys_last : editor.watchers.keys.last ≡ found.keys.after

@@ -144,8 +144,8 @@ where
     Ok(())
 }
 
-/// A board with the table that the files gave first: a token that the list takes back is refused
-/// from the first request on.
+/// A board whose first table is what the files gave: the keys, and beside them the list, where there
+/// is one.
 fn open_editor<R>(rt: &R, found: Found<'_>) -> Result<Editor<R>, AllocError>
 where
     R: Alloc<A = Global> + Wait + Copy + Drop,
