@@ -1,11 +1,17 @@
 pub mod Alive
 pub mod Asks
 pub mod Backlog
+pub mod Badges
+pub mod Batch
 pub mod Gone
+pub mod Leaf
+pub mod Ledger
 pub mod Minted
+pub mod NoLedger
 pub mod Nobody
 pub mod Verified
 pub mod Reason
+pub mod Register
 pub mod Resting
 pub mod Roll
 pub mod SocketQueues

@@ -6,35 +6,37 @@ use Rattle.mac_sockets.specs.Connections.{count_held, weighed}
 use Rattle.mac_loop.specs.declared.batch.Batch.{Batch}
 use Rattle.mac_loop.specs.declared.handover.Handover.{Handover}
 use Rattle.mac_loop.specs.declared.members.Member.{Member}
+use Rattle.mac_loop.specs.declared.register.Origin.{Ghosts}
 use Rattle.mac_loop.specs.Unsent.{unsent_on}
 
--- how many clients are out of their slots for a turn
-abbrev pub count_batch : Batch → ℕ
-count_batch batch = length batch.clients.items
+module _ {O : Type 0} {origin : Ghosts O} where
+  -- how many clients are out of their slots for a turn
+  abbrev pub count_batch : Batch O origin → ℕ
+  count_batch batch = length batch.clients.items
 
--- how many clients there are: in slots, in a turn, and on the way to a slot
-abbrev pub count_there : Slots Member → Batch → Option Handover → ℕ
-count_there slots batch newcomer =
-    count_held slots + count_batch batch + length (option_to_list newcomer)
+  -- how many clients there are: in slots, in a turn, and on the way to a slot
+  abbrev pub count_there : Slots (Member O origin) → Batch O origin → Option (Handover O origin) → ℕ
+  count_there slots batch newcomer =
+      count_held slots + count_batch batch + length (option_to_list newcomer)
 
--- the same of what a slot holds
-abbrev pub unsent_of : Member → ℕ
-unsent_of member = unsent_on member.client
+  -- the same of what a slot holds
+  abbrev pub unsent_of : Member O origin → ℕ
+  unsent_of member = unsent_on member.client
 
--- how many are unsent on the clients in slots together
-abbrev pub unsent_held : Slots Member → ℕ
-unsent_held slots = weighed unsent_of slots
+  -- how many are unsent on the clients in slots together
+  abbrev pub unsent_held : Slots (Member O origin) → ℕ
+  unsent_held slots = weighed unsent_of slots
 
--- the same of those that are out of their slots for a turn
-abbrev pub unsent_batch : Batch → ℕ
-unsent_batch batch = sum_by unsent_on batch.clients.items
+  -- the same of those that are out of their slots for a turn
+  abbrev pub unsent_batch : Batch O origin → ℕ
+  unsent_batch batch = sum_by unsent_on batch.clients.items
 
--- the same of one that is on the way to a slot, where there is one
-abbrev pub unsent_coming : Option Handover → ℕ
-unsent_coming None = 0
-unsent_coming (Some client) = length client.session.unsent
+  -- the same of one that is on the way to a slot, where there is one
+  abbrev pub unsent_coming : Option (Handover O origin) → ℕ
+  unsent_coming None = 0
+  unsent_coming (Some client) = length client.session.unsent
 
--- the same of all that are there
-abbrev pub unsent_there : Slots Member → Batch → Option Handover → ℕ
-unsent_there slots batch newcomer =
-    unsent_held slots + unsent_batch batch + unsent_coming newcomer
+  -- the same of all that are there
+  abbrev pub unsent_there : Slots (Member O origin) → Batch O origin → Option (Handover O origin) → ℕ
+  unsent_there slots batch newcomer =
+      unsent_held slots + unsent_batch batch + unsent_coming newcomer

@@ -1,39 +1,36 @@
 //! The clients of a turn, out of their slots.
 
 ghost use Rattle.std.specs.Prelude.{◌≡◌, ◌+◌, All, IfNone, IfOk, IsTrue, OnErr, OnOk};
-ghost use Rattle.std.specs.Prelude.{OnSome, sum_by};
+ghost use Rattle.std.specs.Prelude.{OnSome, map, sum_by};
 ghost use Rattle.mac_loop.specs.Alive.{IsAlive};
+ghost use Rattle.mac_loop.specs.Batch.{rights_lent, rights_of};
 ghost use Rattle.mac_loop.specs.Backlog.{rounded};
 ghost use Rattle.mac_loop.specs.Unsent.{unsent_on};
 
 use crate::backlog::Backlog;
-use crate::members::{Member, Note};
+use crate::lent::Lent;
+use crate::members::Member;
 use crate::port::SocketPort;
+use crate::register::Origin;
 use mac_board::Outlook;
 use mac_plain::{Client, Round, RoundTerms};
 use std::alloc::{AllocError, Global};
 use std::thread::Threads;
 
-/// What a loop keeps of a slot whose client is in a turn.
-#[derive(Clone, Copy)]
-struct Lent {
-    slot: usize,
-    note: Note,
-}
-
 /// The clients of a turn, each with the slot that it is out of.
 #[derive(Drop)]
-pub struct Batch {
+pub struct Batch<O: Origin> {
     clients: Vec<Client<SocketPort>>,
-    lent: Vec<Lent>,
+    lent: Vec<Lent<O>>,
     ghost alive: { All IsAlive clients.items },
+    ghost called: { map rights_of clients.items ≡ map rights_lent lent.items },
 }
 
-impl Batch {
+impl<O: Origin> Batch<O> {
     ghost use Rattle.mac_loop.specs.Roll.{count_batch, unsent_batch};
 
     /// None, with room for so many.
-    pub fn with_capacity(alloc: Global, count: usize) -> Result<Batch, AllocError>
+    pub fn with_capacity(alloc: Global, count: usize) -> Result<Batch<O>, AllocError>
         ensures { IfOk result (λ batch. count_batch batch ≡ 0) }
     {
         Ok(Batch {
@@ -57,34 +54,42 @@ impl Batch {
     }
 
     /// One more, out of this slot. Without memory it comes back.
-    pub fn push(&mut self, slot: usize, member: Member) -> Result<(), Member>
+    pub fn push(&mut self, slot: usize, member: Member<O>) -> Result<(), Member<O>>
         ensures pushed { OnOk result (count_batch self.new ≡ count_batch self.old + 1) }
         ensures same { OnErr result (count_batch self.new ≡ count_batch self.old) }
     {
-        let Member { client, note } = member;
-        if self.lent.push(Lent { slot, note }).is_err() {
-            return Err(Member { client, note });
+        let Member {
+            client,
+            note,
+            presence,
+        } = member;
+        let lent = Lent {
+            slot,
+            note,
+            presence,
+        };
+        if let Err(refused) = self.lent.push(lent) {
+            return Err(refused.value.with(client));
         }
         match self.clients.push(client) {
             Ok(()) => Ok(()),
             Err(refused) => {
-                let _ = self.lent.pop();
-                Err(Member {
-                    client: refused.value,
-                    note,
-                })
+                let Some(lent) = self.lent.pop() else {
+                    unreachable!()
+                };
+                Err(lent.with(refused.value))
             }
         }
     }
 
     /// The last one, and the slot that it is out of.
-    pub fn pop(&mut self) -> Option<(usize, Member)>
+    pub fn pop(&mut self) -> Option<(usize, Member<O>)>
         ensures none { IfNone result (count_batch self.new ≡ count_batch self.old) }
         ensures one { OnSome result (count_batch self.new + 1 ≡ count_batch self.old) }
     {
-        let Lent { slot, note } = self.lent.pop()?;
+        let lent = self.lent.pop()?;
         let client = self.clients.pop()?;
-        Some((slot, Member { client, note }))
+        Some((lent.slot, lent.with(client)))
     }
 
     /// Serves each once.

@@ -3,10 +3,12 @@
 ghost use Rattle.std.specs.Prelude.{◌≡◌, None};
 ghost use Rattle.mac_plain.specs.Lives.{Said};
 ghost use Rattle.mac_loop.specs.Alive.{HasEndedWell};
+ghost use Rattle.mac_loop.specs.Register.{IsCalled, who};
 
 use crate::handover::Handover;
 use crate::members::Member;
 use crate::port::SocketPort;
+use crate::register::{Origin, Presence};
 use crate::watch::PlainFault;
 use mac_decide::Rights;
 use mac_host::Life;
@@ -28,34 +30,54 @@ pub struct EndedLife {
     ghost all: { fault ≡ None → ∥ HasEndedWell rights.value port.came port.went ∥₁ },
 }
 
-impl EndedLife {
-    /// Of a client on which nothing more is to be done.
-    pub fn of(member: Member) -> EndedLife {
+/// A connection of a daemon that has ended, and was admitted there.
+#[derive(Drop)]
+pub struct Leaver<O: Origin> {
+    pub ended: EndedLife,
+    pub presence: Presence<O>,
+    ghost called: { IsCalled (who presence) ended.life.badge ended.rights.value },
+}
+
+impl<O: Origin> Leaver<O> {
+    /// A client on which nothing more is to be done.
+    pub fn of(member: Member<O>) -> Leaver<O> {
         let life = member.life();
         let fault = PlainFault::of(&member.client);
-        let (port, rights) = member.client.end();
-        EndedLife {
+        let Member {
+            client,
+            note: _,
+            presence,
+        } = member;
+        let (port, rights) = client.end();
+        let ended = EndedLife {
             life,
             fault,
             rights,
             port,
-        }
+        };
+        Leaver { ended, presence }
     }
 
-    /// Of a client that is ended by a fault.
-    pub fn by(member: Member, fault: PlainFault) -> EndedLife {
+    /// A client that is ended by a fault.
+    pub fn by(member: Member<O>, fault: PlainFault) -> Leaver<O> {
         let life = member.life();
-        let (port, rights) = member.client.end();
-        EndedLife {
+        let Member {
+            client,
+            note: _,
+            presence,
+        } = member;
+        let (port, rights) = client.end();
+        let ended = EndedLife {
             life,
             fault: Some(fault),
             rights,
             port,
-        }
+        };
+        Leaver { ended, presence }
     }
 
-    /// Of a connection that no loop takes, by a fault.
-    pub fn on_the_way(client: Handover, fault: PlainFault) -> EndedLife {
+    /// A connection that no loop takes, by a fault.
+    pub fn on_the_way(client: Handover<O>, fault: PlainFault) -> Leaver<O> {
         let life = client.life();
         let Handover {
             port,
@@ -65,12 +87,14 @@ impl EndedLife {
             since: _,
             badge: _,
             displaces: _,
+            presence,
         } = client;
-        EndedLife {
+        let ended = EndedLife {
             life,
             fault: Some(fault),
             rights,
             port,
-        }
+        };
+        Leaver { ended, presence }
     }
 }

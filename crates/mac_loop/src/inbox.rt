@@ -1,10 +1,12 @@
 //! What loops share: where each gets clients from, how busy each is, and what is unsent on all.
 
 ghost use Rattle.std.specs.Prelude.{◌≡◌, ◌++◌, ◌∷◌, [], IfErr, IfNone, IfSome, OnErr, OnOk};
+ghost use Rattle.mac_loop.specs.Register.{who};
 
 use crate::backlog::Backlog;
 use crate::handover::Handover;
 use crate::meter::{Meter, Shares};
+use crate::register::Origin;
 use mac_host::{Badge, Socket};
 use mac_mail::History;
 use mac_plain::UNSENT_MAX;
@@ -52,8 +54,8 @@ struct Displacing {
 
 /// A loop, as others see it.
 #[derive(Drop)]
-struct LoopSide {
-    inbox: Inbox<Handover>,
+struct LoopSide<O: Origin> {
+    inbox: Inbox<Handover<O>>,
     // How many clients wait in it.
     waiting: AtomicUsize,
     meter: Meter,
@@ -94,8 +96,8 @@ impl Displacing {
 
 /// The loops of a daemon, as others see them.
 #[derive(Drop)]
-pub struct Loops {
-    sides: Vec<LoopSide>,
+pub struct Loops<O: Origin> {
+    sides: Vec<LoopSide<O>>,
     // Whether a turn may be answered by several threads.
     may_share: bool,
     // How many loops are in a turn.
@@ -109,10 +111,10 @@ pub struct Loops {
     is_closed: AtomicBool,
 }
 
-impl Loops {
+impl<O: Origin> Loops<O> {
     /// No loops yet, whose turns may be answered by several threads, or not, and whose clients have
     /// so many bytes of memory together.
-    pub fn new(alloc: Global, may_share: bool, memory: u64) -> Loops {
+    pub fn new(alloc: Global, may_share: bool, memory: u64) -> Loops<O> {
         Loops {
             sides: Vec::new(alloc),
             may_share,
@@ -126,7 +128,7 @@ impl Loops {
     }
 
     /// One loop more, which gets clients from this inbox.
-    pub fn push(&mut self, inbox: Inbox<Handover>) -> Result<(), AllocError> {
+    pub fn push(&mut self, inbox: Inbox<Handover<O>>) -> Result<(), AllocError> {
         self.sides.push(LoopSide {
             inbox,
             waiting: AtomicUsize::new(0),
@@ -146,9 +148,9 @@ impl Loops {
         &self,
         rt: &R,
         number: usize,
-        client: Handover,
+        client: Handover<O>,
         handed: &mut History<Badge>,
-    ) -> Result<(), Handover>
+    ) -> Result<(), Handover<O>>
         ensures handed { OnOk result (handed.new ≡ handed.old ++ client.badge ∷ []) }
         ensures same { OnErr result (handed.new ≡ handed.old) }
         ensures back { IfErr result (λ back. back ≡ client) }
@@ -187,11 +189,12 @@ impl Loops {
         &self,
         rt: &R,
         socket: Socket,
-        client: Handover,
+        client: Handover<O>,
         handed: &mut History<Badge>,
-    ) -> Result<(), Handover>
+    ) -> Result<(), Handover<O>>
         ensures handed { OnOk result (handed.new ≡ handed.old ++ client.badge ∷ []) }
         ensures same { OnErr result (handed.new ≡ handed.old) }
+        ensures back { IfErr result (λ back. who back.presence ≡ who client.presence) }
     {
         let (number, since) = self.stalest(socket);
         let is_own = client.badge.socket == socket;
@@ -218,7 +221,7 @@ impl Loops {
         rt: &R,
         number: usize,
         given: &mut History<Badge>,
-    ) -> Option<Handover>
+    ) -> Option<Handover<O>>
         ensures none { IfNone result (given.new ≡ given.old) }
         ensures one { IfSome result (λ client. given.new ≡ given.old ++ client.badge ∷ []) }
     {

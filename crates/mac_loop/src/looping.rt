@@ -17,18 +17,19 @@ use crate::backlog::Backlog;
 use crate::inbox::Loops;
 use crate::meter::Shares;
 use crate::outcomes::EndedLoop;
+use crate::register::Origin;
 use crate::roll::Roll;
 use crate::watch::Watch;
 use mac_board::Outlook;
-use mac_decide::Macaroons;
+use mac_decide::{Macaroons, SeenTokens};
 use mac_host::{microseconds, microseconds_of};
 use mac_plain::Round;
 use mac_queue::Desk;
-use mac_sockets::Account;
+use mac_sockets::{Account, SharedBudget};
 pub use making::make_loops;
 use mio::Waker;
 use std::alloc::Global;
-use std::sync::Wait;
+use std::sync::{Arc, Wait};
 use std::thread::Threads;
 use std::time::{Clock, Duration};
 
@@ -46,10 +47,10 @@ const RETRY: u64 = 10_000;
 
 /// A loop, with the clients of its slots.
 #[derive(Drop)]
-pub struct Loop {
+pub struct Loop<O: Origin> {
     number: usize,
     alloc: Global,
-    roll: Roll,
+    roll: Roll<O>,
     // What ends its waits once workers have answered, of whom there are so many.
     waker: Option<Waker>,
     workers: usize,
@@ -95,7 +96,18 @@ pub struct LoopTerms {
     pub memory: u64,
 }
 
-impl Loop {
+/// What loops are made of.
+#[derive(Drop)]
+pub struct LoopParts {
+    /// What they are held to.
+    pub terms: LoopTerms,
+    /// The memory of tokens that they share.
+    pub seen: SeenTokens,
+    /// What their clients may hold together.
+    pub budget: Arc<SharedBudget, Global>,
+}
+
+impl<O: Origin> Loop<O> {
     ghost use Rattle.mac_loop.specs.Nobody.{HasNobody};
     ghost use Rattle.mac_loop.specs.Told.{HasTold};
 
@@ -106,11 +118,11 @@ impl Loop {
     pub fn run<R, K, W>(
         mut self,
         rt: &R,
-        loops: &Loops,
+        loops: &Loops<O>,
         outlook: &mut K,
         watch: &W,
         desk: Desk<Macaroons>,
-    ) -> EndedLoop
+    ) -> EndedLoop<O>
     where
         R: Wait + Clock + Threads + Sync,
         K: Outlook,
@@ -119,9 +131,12 @@ impl Loop {
     {
         let mut asks = Asks::new(self.alloc, desk, self.workers, self.waker.take());
         self.take_turns(rt, loops, outlook, &mut asks, watch);
+        let Loop { roll, .. } = self;
+        let (outcomes, register) = roll.settle();
         EndedLoop {
-            outcomes: self.roll.settle(),
             desk: asks.into_desk(),
+            outcomes,
+            register,
         }
     }
 
@@ -129,7 +144,7 @@ impl Loop {
     fn take_turns<R, K, W>(
         &mut self,
         rt: &R,
-        loops: &Loops,
+        loops: &Loops<O>,
         outlook: &mut K,
         asks: &mut Asks,
         watch: &W,
@@ -156,7 +171,7 @@ impl Loop {
     fn take_turn<R, K, W>(
         &mut self,
         rt: &R,
-        loops: &Loops,
+        loops: &Loops<O>,
         outlook: &mut K,
         asks: &mut Asks,
         watch: &W,
@@ -185,7 +200,7 @@ impl Loop {
     }
 
     /// Tells the other loops how much is unsent on its clients.
-    fn tell_unsent(&mut self, loops: &Loops)
+    fn tell_unsent(&mut self, loops: &Loops<O>)
         ensures { HasTold self.new }
     {
         loops.tell_unsent(&mut self.told, self.roll.unsent());
@@ -207,7 +222,7 @@ impl Loop {
     fn keep_time<R: Wait + Clock, K: Outlook, W: Watch>(
         &mut self,
         rt: &R,
-        loops: &Loops,
+        loops: &Loops<O>,
         outlook: &mut K,
         watch: &W,
         spent: u64,

@@ -4,10 +4,12 @@ ghost use Rattle.std.specs.Prelude.{◌≡◌, IsTrue};
 ghost use Rattle.mac_plain.specs.Client.{may_move};
 ghost use Rattle.mac_plain.specs.declared.course.Course.TheVariants as course;
 ghost use Rattle.mac_loop.specs.Alive.{IsAlive};
+ghost use Rattle.mac_loop.specs.Register.{IsCalled, who};
 
-use crate::ended::EndedLife;
+use crate::ended::Leaver;
 use crate::handover::Handover;
 use crate::port::SocketPort;
+use crate::register::{Origin, Presence};
 use crate::watch::{PlainFault, Watch};
 use mac_board::{Current, Outlook};
 use mac_count::Request;
@@ -64,10 +66,12 @@ const DROPPED_MICROS: u64 = 100_000;
 
 /// What a slot of a loop holds: a client, of whom all that came and went on its socket is known.
 #[derive(Drop)]
-pub struct Member {
+pub struct Member<O: Origin> {
     pub client: Client<SocketPort>,
     pub note: Note,
+    pub presence: Presence<O>,
     pub ghost lives: { IsAlive client },
+    pub ghost called: { IsCalled (who presence) note.badge client.rights.value },
 }
 
 impl Progress {
@@ -81,11 +85,18 @@ impl Progress {
     }
 }
 
-impl Member {
+impl<O: Origin> Member<O> {
     /// A client that begins behind so many looks at how busy loops are, and made its last progress
     /// then.
-    pub fn new(client: Client<SocketPort>, since: u64, badge: Badge, look: u64) -> Member
-        requires { IsAlive client }
+    pub fn new(
+        client: Client<SocketPort>,
+        since: u64,
+        badge: Badge,
+        look: u64,
+        presence: Presence<O>,
+    ) -> Member<O>
+        requires lives { IsAlive client }
+        requires called { IsCalled (who presence) badge client.rights.value }
     {
         let note = Note {
             is_closing: false,
@@ -99,11 +110,17 @@ impl Member {
             dropped: 0,
             held: 0,
         };
-        Member { client, note }
+        Member {
+            client,
+            note,
+            presence,
+        }
     }
 
     /// What it has come to.
-    pub fn life(&self) -> Life {
+    pub fn life(&self) -> Life
+        ensures { result.badge ≡ self.now.note.badge }
+    {
         Life {
             badge: self.note.badge,
             answered: self.client.answered(),
@@ -263,14 +280,18 @@ impl Member {
 
     /// It leaves its slot for another loop. It takes along how far the tables were that it was
     /// answered under here.
-    pub fn part<K: Outlook>(self, outlook: &K) -> Handover
+    pub fn part<K: Outlook>(self, outlook: &K) -> Handover<O>
         requires { IsTrue (may_move self.client.course) }
         ensures port { result.port ≡ self.client.port }
         ensures session { result.session ≡ self.client.session }
         ensures rights { result.rights ≡ self.client.rights }
         ensures place { result.place ≡ (K.known outlook.now).tables.place }
     {
-        let Member { client, note } = self;
+        let Member {
+            client,
+            note,
+            presence,
+        } = self;
         let (port, session, rights) = client.into_parts();
         Handover {
             port,
@@ -280,18 +301,19 @@ impl Member {
             since: note.since,
             badge: note.badge,
             displaces: None,
+            presence,
         }
     }
 
     /// What it had come to once it has ended, by a fault or as it stands. It may have waited for a
     /// worker's answer.
-    pub fn end<W: Watch>(self, watch: &W, fault: Option<PlainFault>) -> EndedLife {
+    pub fn end<W: Watch>(self, watch: &W, fault: Option<PlainFault>) -> Leaver<O> {
         if self.client.is_waiting() {
             watch.narrow(self.life(), None, 0);
         }
         match fault {
-            Some(fault) => EndedLife::by(self, fault),
-            None => EndedLife::of(self),
+            Some(fault) => Leaver::by(self, fault),
+            None => Leaver::of(self),
         }
     }
 
@@ -308,7 +330,7 @@ impl Member {
     }
 }
 
-impl Holds for Member {
+impl<O: Origin> Holds for Member<O> {
     ghost bytes = { λ member. member.note.held };
 
     fn held(&self) -> u64 {
@@ -321,7 +343,7 @@ impl Holds for Member {
     }
 }
 
-impl Wakes for Member {
+impl<O: Origin> Wakes for Member<O> {
     ghost use Rattle.std.specs.Prelude.{length};
 
     ghost weight = { λ member. length member.client.session.unsent };

@@ -4,6 +4,7 @@ ghost use Rattle.std.specs.Prelude.{◌≡◌, ◌⊎◌, ℕ, IfSome, Some};
 ghost use Rattle.mac_loop.specs.Resting.{IsStalest, rested_at, RestedSince, since_at};
 
 use crate::members::Member;
+use crate::register::Origin;
 use mac_host::Socket;
 use mac_slots::Slots;
 
@@ -16,7 +17,7 @@ pub struct Resting {
     pub since: u64,
 }
 
-impl Member {
+impl<O: Origin> Member<O> {
     /// Since when it has rested, where it came in at this socket.
     pub fn rested_since(&self, socket: Socket) -> Option<u64>
         ensures { result ≡ since_at socket self.now }
@@ -29,7 +30,7 @@ impl Member {
 }
 
 /// The one that has rested longest of those that came in at a socket, where there is one.
-pub fn stalest(slots: &Slots<Member>, socket: Socket) -> Option<Resting>
+pub fn stalest<O: Origin>(slots: &Slots<Member<O>>, socket: Socket) -> Option<Resting>
     ensures { IsStalest socket slots.now result }
 {
     let mut found = None;
@@ -40,7 +41,7 @@ pub fn stalest(slots: &Slots<Member>, socket: Socket) -> Option<Resting>
 }
 
 /// Since when the client of a slot has rested, where one is there that came in at this socket.
-fn since_of(slots: &Slots<Member>, slot: usize, socket: Socket) -> Option<u64>
+fn since_of<O: Origin>(slots: &Slots<Member<O>>, slot: usize, socket: Socket) -> Option<u64>
     ensures { result ≡ rested_at socket slots.now slot }
 {
     match slots.get(slot) {

@@ -2,7 +2,8 @@
 
 ghost use Rattle.std.specs.Prelude.{◌≡◌, ◌+◌, ◌≤◌, IsTrue, OnErr, OnOk, length, option_to_list};
 ghost use Rattle.mac_loop.specs.Backlog.{rounded};
-ghost use Rattle.mac_loop.specs.Gone.{count_gone};
+ghost use Rattle.mac_loop.specs.Gone.{HaveGone, count_gone};
+ghost use Rattle.mac_loop.specs.Register.{IsBegun};
 ghost use Rattle.mac_loop.specs.Roll.{count_there, unsent_coming, unsent_held};
 ghost use Rattle.mac_sockets.specs.Connections.{count_held};
 
@@ -10,21 +11,22 @@ mod noting;
 
 use crate::backlog::Backlog;
 use crate::batch::Batch;
-use crate::ended::EndedLife;
+use crate::ended::Leaver;
 use crate::handover::Handover;
 use crate::inbox::Loops;
 use crate::members::Member;
-use crate::outcomes::Outcomes;
+use crate::outcomes::{Leavers, Outcomes};
+use crate::register::{Origin, Register};
 use crate::watch::{PlainFault, Watch};
 use mac_board::Outlook;
 use mac_decide::Job;
-use mac_host::Traffic;
+use mac_host::{Badge, Traffic};
+use mac_mail::History;
 use mac_plain::{Client, Round, RoundTerms};
 use mac_slots::Slots;
 use mac_sockets::{Connections, Readiness, WaitFault};
 use mio::{Token, Waker};
 use std::alloc::Global;
-use std::mem;
 use std::net::Net;
 use std::sync::Wait;
 use std::thread::Threads;
@@ -33,17 +35,20 @@ use std::time::{Clock, Duration};
 /// The clients of a loop. Each connection that the loop was given is there, or was handed on, or
 /// its end was told, or it was turned away.
 #[derive(Drop)]
-pub struct Roll {
-    connections: Connections<Member>,
+pub struct Roll<O: Origin> {
+    connections: Connections<Member<O>>,
     // The clients of a turn.
-    batch: Batch,
+    batch: Batch<O>,
     // One that was handed over, and has no slot yet.
-    newcomer: Option<Handover>,
-    outcomes: Outcomes,
+    newcomer: Option<Handover<O>>,
+    // What each was known by that the loop was given, and that it handed on to another one.
+    given: History<Badge>,
+    handed: History<Badge>,
+    leavers: Leavers<O>,
     // How many bytes are unsent on the clients in slots.
     backlog: Backlog,
-    ghost accounted: { length outcomes.given
-        ≡ count_gone outcomes + count_there connections.slots batch newcomer },
+    ghost accounted: { length given ≡ length handed + length leavers.ended
+        + length leavers.refused + count_there connections.slots batch newcomer },
     ghost summed: { backlog.bytes ≡ rounded (unsent_held connections.slots) },
 }
 
@@ -67,12 +72,19 @@ pub struct Back {
     pub job: Option<Job>,
 }
 
-impl Roll {
+impl<O: Origin> Roll<O> {
     ghost use Rattle.mac_loop.specs.Nobody.{HasNobody};
     ghost use Rattle.mac_loop.specs.Roll.{unsent_there};
 
     /// No clients, with room for a turn of so many, and what ends the waits for them.
-    pub fn new<R: Net>(rt: &R, alloc: Global, parts: usize) -> Result<(Roll, Wakers), WaitFault> {
+    pub fn new<R: Net>(
+        rt: &R,
+        alloc: Global,
+        parts: usize,
+        register: Register<O>,
+    ) -> Result<(Roll<O>, Wakers), WaitFault>
+        requires { IsBegun register }
+    {
         let (connections, inbox) = Connections::new(rt, alloc)?;
         let batch = Batch::with_capacity(alloc, parts)?;
         let asks = connections.waker()?;
@@ -81,7 +93,9 @@ impl Roll {
             connections,
             batch,
             newcomer: None,
-            outcomes: Outcomes::none(),
+            given: History::new(),
+            handed: History::new(),
+            leavers: Leavers::none(register),
             backlog: Backlog::none(),
         };
         Ok((
@@ -100,7 +114,7 @@ impl Roll {
     }
 
     /// The slots, and which of them are ready.
-    pub fn slots(&self) -> &Slots<Member> {
+    pub fn slots(&self) -> &Slots<Member<O>> {
         &self.connections.slots
     }
 
@@ -209,8 +223,8 @@ impl Roll {
         match self.connections.slots.put(slot, member) {
             Ok(()) => self.backlog.add(unsent),
             Err(member) => {
-                let ended = member.end(watch, Some(PlainFault::NoMemory));
-                watch.end(rt, ended, &mut self.outcomes.ended);
+                let leaver = member.end(watch, Some(PlainFault::NoMemory));
+                self.leavers.end(rt, watch, leaver);
             }
         }
         Some(back)
@@ -226,22 +240,22 @@ impl Roll {
     ) {
         if let Some(member) = self.connections.slots.release(slot) {
             self.backlog.subtract(member.client.unsent());
-            let ended = member.end(watch, fault);
-            watch.end(rt, ended, &mut self.outcomes.ended);
+            let leaver = member.end(watch, fault);
+            self.leavers.end(rt, watch, leaver);
         }
     }
 
     /// Takes the next client that was handed to the loop of this number, unless one waits for its
     /// slot. Whether there is one.
-    pub fn call<R: Wait>(&mut self, rt: &R, loops: &Loops, number: usize) -> bool {
+    pub fn call<R: Wait>(&mut self, rt: &R, loops: &Loops<O>, number: usize) -> bool {
         if self.newcomer.is_none() {
-            self.newcomer = loops.take(rt, number, &mut self.outcomes.given);
+            self.newcomer = loops.take(rt, number, &mut self.given);
         }
         self.newcomer.is_some()
     }
 
     /// The client that has no slot yet.
-    pub fn newcomer(&self) -> Option<&Handover> {
+    pub fn newcomer(&self) -> Option<&Handover<O>> {
         self.newcomer.as_ref()
     }
 
@@ -268,7 +282,7 @@ impl Roll {
             Some(slot) => give_way(&mut self.connections.slots, &mut self.backlog, watch, slot),
             None => None,
         };
-        match watch.displace(rt, gone, client.badge, &mut self.outcomes.ended) {
+        match self.leavers.displace(rt, watch, gone, client.badge) {
             Some(badge) => {
                 client.badge = badge;
                 client.displaces = None;
@@ -276,7 +290,7 @@ impl Roll {
                 true
             }
             None => {
-                self.outcomes.refused.add(&client.badge);
+                self.leavers.refuse(client);
                 false
             }
         }
@@ -316,8 +330,8 @@ impl Roll {
         fault: PlainFault,
     ) {
         if let Some(client) = self.newcomer.take() {
-            let ended = EndedLife::on_the_way(client, fault);
-            watch.end(rt, ended, &mut self.outcomes.ended);
+            let leaver = Leaver::on_the_way(client, fault);
+            self.leavers.end(rt, watch, leaver);
         }
     }
 
@@ -326,7 +340,7 @@ impl Roll {
     pub fn hand_on<R: Wait, K: Outlook>(
         &mut self,
         rt: &R,
-        loops: &Loops,
+        loops: &Loops<O>,
         number: usize,
         slot: usize,
         outlook: &K,
@@ -345,22 +359,44 @@ impl Roll {
         self.backlog.subtract(member.client.unsent());
         let client = member.part(outlook);
         let _ = client.port.stream().leave(self.connections.registry());
-        if let Err(client) = loops.hand(rt, number, client, &mut self.outcomes.handed) {
+        if let Err(client) = loops.hand(rt, number, client, &mut self.handed) {
             self.newcomer = Some(client);
         }
     }
 
-    /// What became of the connections that the loop was given, once it has nobody. It begins anew.
-    pub fn settle(&mut self) -> Outcomes
-        requires { HasNobody self.old }
-        ensures { length result.given ≡ count_gone result }
+    /// What became of the connections that the loop was given, once it has nobody, and its part of
+    /// the register.
+    pub fn settle(self) -> (Outcomes, Register<O>)
+        requires { HasNobody self }
+        ensures settled { length result.0.given ≡ count_gone result.0 }
+        ensures gone { HaveGone result.0.ended result.0.refused result.1 }
     {
-        mem::replace(&mut self.outcomes, Outcomes::none())
+        let Roll {
+            connections: _,
+            batch: _,
+            newcomer: _,
+            given,
+            handed,
+            leavers,
+            backlog: _,
+        } = self;
+        let Leavers {
+            ended,
+            refused,
+            register,
+        } = leavers;
+        let outcomes = Outcomes {
+            given,
+            handed,
+            ended,
+            refused,
+        };
+        (outcomes, register)
     }
 }
 
 /// How many bytes are unsent on a client that is on the way to a slot, where there is one.
-fn unsent_on_the_way(newcomer: &Option<Handover>) -> usize
+fn unsent_on_the_way<O: Origin>(newcomer: &Option<Handover<O>>) -> usize
     ensures { result ≡ unsent_coming newcomer.now }
 {
     match newcomer {
@@ -370,12 +406,12 @@ fn unsent_on_the_way(newcomer: &Option<Handover>) -> usize
 }
 
 /// What the client of a slot had come to that gives way to another one, where there is one.
-fn give_way<W: Watch>(
-    slots: &mut Slots<Member>,
+fn give_way<O: Origin, W: Watch>(
+    slots: &mut Slots<Member<O>>,
     backlog: &mut Backlog,
     watch: &W,
     slot: usize,
-) -> Option<EndedLife>
+) -> Option<Leaver<O>>
     ensures gone { count_held slots.new + length (option_to_list result)
         ≡ count_held slots.old }
     ensures unsent { backlog.old.bytes ≡ rounded (unsent_held slots.old)
@@ -387,13 +423,13 @@ fn give_way<W: Watch>(
 }
 
 /// Gives a client a slot, and registers it there. Without memory it comes back.
-fn put_in<K: Outlook>(
-    connections: &mut Connections<Member>,
+fn put_in<O: Origin, K: Outlook>(
+    connections: &mut Connections<Member<O>>,
     backlog: &mut Backlog,
-    client: Handover,
+    client: Handover<O>,
     outlook: &K,
     looks: u64,
-) -> Result<usize, Handover>
+) -> Result<usize, Handover<O>>
     requires { client.place ≤ (K.known outlook.now).tables.place }
     ensures put { OnOk result
         (count_held connections.new.slots ≡ count_held connections.old.slots + 1) }
@@ -418,9 +454,10 @@ fn put_in<K: Outlook>(
         since,
         badge,
         displaces: _,
+        presence,
     } = client;
     let client = Client::new(port, session, rights);
-    let member = Member::new(client, since, badge, looks);
+    let member = Member::new(client, since, badge, looks, presence);
     backlog.add(member.client.unsent());
     let _ = connections.slots.put(slot, member);
     Ok(slot)

@@ -1,7 +1,8 @@
 //! What loops ask of the daemon around them.
 
-ghost use Rattle.std.specs.Prelude.{◌≡◌, ◌++◌, ◌∷◌, [], None, map, option_to_list};
+ghost use Rattle.std.specs.Prelude.{◌≡◌, ◌++◌, ◌∷◌, [], IfSome, None, map, option_to_list};
 ghost use Rattle.mac_loop.specs.Alive.{EndsWell};
+ghost use Rattle.mac_loop.specs.Badges.{IsSameBadge};
 
 use crate::ended::EndedLife;
 use crate::port::SocketPort;
@@ -106,7 +107,8 @@ pub trait Watch: Send + Sync {
         comes: Badge,
         told: &mut History<Life>,
     ) -> Option<Badge>
-        ensures { told.new ≡ told.old ++ map (λ ended. ended.life) (option_to_list gone) };
+        ensures told { told.new ≡ told.old ++ map (λ ended. ended.life) (option_to_list gone) }
+        ensures badge { IfSome result (λ badge. IsSameBadge comes badge) };
 
     /// A client waits for a worker no more, for which it did so many microseconds. What it has had
     /// answered then, if anything.

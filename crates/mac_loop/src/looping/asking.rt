@@ -4,12 +4,13 @@ ghost use Rattle.std.specs.Prelude.{◌≡◌};
 
 use crate::asks::{Answered, Asker, Asks, Delivered};
 use crate::looping::Loop;
+use crate::register::Origin;
 use crate::watch::Watch;
 use mac_decide::Job;
 use mac_host::Badge;
 use std::sync::Wait;
 
-impl Loop {
+impl<O: Origin> Loop<O> {
     /// Has a worker answer a job of the client of a slot, which waits for that from now on. Without
     /// memory it has fallen.
     pub(super) fn ask<R: Wait, W: Watch>(

@@ -2,18 +2,19 @@
 
 use crate::inbox::{Loops, NEWCOMERS_MAX};
 use crate::looping::Loop;
+use crate::register::Origin;
 use crate::watch::{PlainFault, Watch};
 use mac_board::Outlook;
 use std::sync::Wait;
 use std::time::Clock;
 
-impl Loop {
+impl<O: Origin> Loop<O> {
     /// Takes in the clients that were handed over: so many between two turns at most, and then it
     /// looks again. So a flood of newcomers keeps none of its clients from a turn.
     pub(super) fn take_in_all<R: Wait + Clock, K: Outlook, W: Watch>(
         &mut self,
         rt: &R,
-        loops: &Loops,
+        loops: &Loops<O>,
         outlook: &mut K,
         watch: &W,
     ) {
@@ -41,7 +42,7 @@ impl Loop {
     pub(super) fn receive<R: Wait + Clock, K: Outlook, W: Watch>(
         &mut self,
         rt: &R,
-        loops: &Loops,
+        loops: &Loops<O>,
         outlook: &mut K,
         watch: &W,
     ) {
@@ -52,7 +53,7 @@ impl Loop {
     }
 
     /// Counts a client that has a slot from now on.
-    fn begin(&mut self, loops: &Loops, slot: usize) {
+    fn begin(&mut self, loops: &Loops<O>, slot: usize) {
         if let Some(member) = self.roll.slots().get(slot) {
             loops.note_rest(self.number, member.note.badge.socket, member.note.since);
         }
@@ -78,7 +79,7 @@ impl Loop {
     }
 
     /// Once the loops are draining, takes nothing more from its clients than what has come.
-    pub(super) fn drain(&mut self, loops: &Loops) {
+    pub(super) fn drain(&mut self, loops: &Loops<O>) {
         if self.is_draining || !loops.is_draining() {
             return;
         }

@@ -2,6 +2,7 @@
 //! is passed nobody is read, and the client that holds most is ended.
 
 use crate::looping::Loop;
+use crate::register::Origin;
 use crate::watch::{PlainFault, Watch};
 use mac_sockets::{Heavy, heaviest};
 use std::sync::Wait;
@@ -11,7 +12,7 @@ use std::time::Clock;
 /// all that it reads, in memory that doubles too.
 const TURN_ROOM: u64 = 8_388_608;
 
-impl Loop {
+impl<O: Origin> Loop<O> {
     /// Has the memory that its turn may take, whose clients may hold so much more behind it.
     /// Whether there is as much: else nobody is to be read.
     pub(super) fn has_room<R: Wait>(&mut self, rt: &R, growth: u64) -> bool {

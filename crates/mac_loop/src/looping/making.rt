@@ -1,13 +1,16 @@
 //! How loops are made. Each step has little that it lets go of where it fails, since that is what
 //! its proof costs.
 
+ghost use Rattle.std.specs.Prelude.{◌≡◌, ◌<◌, IfOk, OnOk, length};
+ghost use Rattle.mac_loop.specs.Register.{HasMet, IsBegun, parts as parts_of};
+
 use crate::backlog::Backlog;
 use crate::handover::Handover;
 use crate::inbox::Loops;
-use crate::looping::{Loop, LoopTerms, PARTS_MAX};
+use crate::looping::{Loop, LoopParts, PARTS_MAX};
 use crate::meter::Shares;
+use crate::register::{Origin, Register};
 use crate::roll::{Roll, Wakers};
-use mac_decide::SeenTokens;
 use mac_plain::Round;
 use mac_sockets::{Account, Inbox, SharedBudget, WaitFault};
 use mio::Waker;
@@ -15,19 +18,23 @@ use std::alloc::{AllocError, Global};
 use std::net::Net;
 use std::sync::{Arc, Wait};
 
-/// The loops of these terms, which share a memory of tokens, and the budget of what their clients
-/// hold.
-pub fn make_loops<R: Net + Wait>(
+/// The loops that are made of these parts. Each has its part of the register.
+pub fn make_loops<O: Origin, R: Net + Wait>(
     rt: &R,
     alloc: Global,
-    terms: LoopTerms,
-    seen: &SeenTokens,
-    budget: &Arc<SharedBudget, Global>,
-) -> Result<(Arc<Loops, Global>, Vec<Box<Loop>>), WaitFault> {
+    parts: &LoopParts,
+    register: &mut Register<O>,
+) -> Result<(Arc<Loops<O>, Global>, Vec<Box<Loop<O>>>), WaitFault>
+    requires { parts.now.terms.count < parts_of register.old }
+    ensures count { IfOk result (λ made. length made.1.items ≡ parts.now.terms.count) }
+    ensures left { OnOk result (HasMet register.new parts.now.terms.count register.old) }
+{
+    let terms = parts.terms;
     let mut loops = Loops::new(alloc, terms.may_share, terms.memory);
     let mut made = Vec::with_capacity(alloc, terms.count)?;
     for number in 0..terms.count {
-        let (one, inbox) = make_loop(rt, alloc, number, terms, seen, budget)?;
+        let part = register.part()?;
+        let (one, inbox) = make_loop(rt, alloc, number, parts, part)?;
         made.push(one)?;
         loops.push(inbox)?;
     }
@@ -35,17 +42,23 @@ pub fn make_loops<R: Net + Wait>(
 }
 
 /// The loop of a number, and where it gets clients from.
-fn make_loop<R: Net + Wait>(
+fn make_loop<O: Origin, R: Net + Wait>(
     rt: &R,
     alloc: Global,
     number: usize,
-    terms: LoopTerms,
-    seen: &SeenTokens,
-    budget: &Arc<SharedBudget, Global>,
-) -> Result<(Box<Loop>, Inbox<Handover>), WaitFault> {
+    parts: &LoopParts,
+    register: Register<O>,
+) -> Result<(Box<Loop<O>>, Inbox<Handover<O>>), WaitFault>
+    requires { IsBegun register }
+{
+    let LoopParts {
+        terms,
+        seen,
+        budget,
+    } = parts;
     let round = Round::new(alloc, seen.share()?)?;
     let shares = Shares::new(alloc, terms.count)?;
-    let (roll, wakers) = Roll::new(rt, alloc, PARTS_MAX)?;
+    let (roll, wakers) = Roll::new(rt, alloc, PARTS_MAX, register)?;
     let Ends {
         account,
         asks,
@@ -78,19 +91,19 @@ fn make_loop<R: Net + Wait>(
 /// What a loop is reached by: by what others give back to the budget, by workers that have an
 /// answer, and by who hands it a client.
 #[derive(Drop)]
-struct Ends {
+struct Ends<O: Origin> {
     account: Account,
     asks: Waker,
-    inbox: Inbox<Handover>,
+    inbox: Inbox<Handover<O>>,
 }
 
 /// What a loop is reached by, whose waits end so.
-fn open_ends<R: Wait>(
+fn open_ends<O: Origin, R: Wait>(
     rt: &R,
     alloc: Global,
     budget: &Arc<SharedBudget, Global>,
     wakers: Wakers,
-) -> Result<Ends, AllocError> {
+) -> Result<Ends<O>, AllocError> {
     let Wakers {
         inbox,
         asks,

@@ -2,6 +2,7 @@
 
 use crate::inbox::Loops;
 use crate::looping::Loop;
+use crate::register::Origin;
 use crate::watch::Watch;
 use mac_board::Outlook;
 use std::sync::Wait;
@@ -21,13 +22,13 @@ const LOOKS: u8 = 4;
 /// Two loops that together worked no more become one.
 const SHARE_ONE: u64 = 600;
 
-impl Loop {
+impl<O: Origin> Loop<O> {
     /// Gives clients to another loop: half of those that are active where this one can't keep up,
     /// all of them where one before it has time for them.
     pub(super) fn spread<R: Wait + Clock, K: Outlook, W: Watch>(
         &mut self,
         rt: &R,
-        loops: &Loops,
+        loops: &Loops<O>,
         outlook: &mut K,
         watch: &W,
     ) {
@@ -66,7 +67,7 @@ impl Loop {
     fn give<R: Wait + Clock, K: Outlook, W: Watch>(
         &mut self,
         rt: &R,
-        loops: &Loops,
+        loops: &Loops<O>,
         outlook: &mut K,
         watch: &W,
         number: usize,
@@ -89,7 +90,7 @@ impl Loop {
     fn move_to<R: Wait + Clock, K: Outlook, W: Watch>(
         &mut self,
         rt: &R,
-        loops: &Loops,
+        loops: &Loops<O>,
         outlook: &mut K,
         watch: &W,
         number: usize,

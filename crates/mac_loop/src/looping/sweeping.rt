@@ -4,6 +4,7 @@
 use crate::inbox::Loops;
 use crate::looping::Loop;
 use crate::members::Progress;
+use crate::register::Origin;
 use crate::watch::{PlainFault, Watch};
 use mac_sockets::Readiness;
 use std::sync::Wait;
@@ -22,10 +23,10 @@ const QUIET: u64 = 300;
 /// The microseconds of a second.
 const SECOND: u64 = 1_000_000;
 
-impl Loop {
+impl<O: Origin> Loop<O> {
     /// Ends the clients that have made no progress for as long as they may, and looks again at
     /// those that are owed something. So an event that was missed delays them, and no more.
-    pub(super) fn sweep<R: Wait + Clock, W: Watch>(&mut self, rt: &R, loops: &Loops, watch: &W) {
+    pub(super) fn sweep<R: Wait + Clock, W: Watch>(&mut self, rt: &R, loops: &Loops<O>, watch: &W) {
         if self.now.saturating_sub(self.swept) < self.sweep_span() {
             return;
         }

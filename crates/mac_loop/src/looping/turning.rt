@@ -5,6 +5,7 @@ ghost use Rattle.std.specs.Prelude.{◌≡◌};
 use crate::asks::Asks;
 use crate::inbox::Loops;
 use crate::looping::{Loop, PARTS_MAX};
+use crate::register::Origin;
 use crate::roll::Back;
 use crate::watch::{Turn, Watch};
 use mac_board::Outlook;
@@ -17,12 +18,12 @@ use std::time::Clock;
 /// How many parts of a turn a client takes that has more to be read than a turn takes.
 const DEEP: usize = 32;
 
-impl Loop {
+impl<O: Origin> Loop<O> {
     /// Answers what clients that are ready have sent. What the turn came to.
     pub(super) fn serve_ready<R: Wait + Clock + Threads + Sync, K: Outlook, W: Watch>(
         &mut self,
         rt: &R,
-        loops: &Loops,
+        loops: &Loops<O>,
         outlook: &mut K,
         asks: &mut Asks,
         watch: &W,

@@ -3,6 +3,7 @@
 
 use crate::inbox::Loops;
 use crate::looping::Loop;
+use crate::register::Origin;
 use crate::resting::stalest;
 use crate::watch::Watch;
 use mac_host::Socket;
@@ -10,7 +11,7 @@ use mac_sockets::REST_MIN;
 use std::sync::Wait;
 use std::time::Clock;
 
-impl Loop {
+impl<O: Origin> Loop<O> {
     /// Has another client give way to the newcomer where one is to: of which socket, is decided
     /// here, by how many there are now. Whether there is room for it: else it is turned away.
     pub(super) fn admit<R: Wait + Clock, W: Watch>(&mut self, rt: &R, watch: &W) -> bool {
@@ -46,13 +47,13 @@ impl Loop {
     }
 
     /// Tells others since when its clients have rested.
-    pub(super) fn tell_stalest(&self, loops: &Loops) {
+    pub(super) fn tell_stalest(&self, loops: &Loops<O>) {
         self.tell_stalest_of(loops, Socket::Main);
         self.tell_stalest_of(loops, Socket::Side);
     }
 
     /// The same of those that came in at a socket.
-    fn tell_stalest_of(&self, loops: &Loops, socket: Socket) {
+    fn tell_stalest_of(&self, loops: &Loops<O>, socket: Socket) {
         let found = stalest(self.roll.slots(), socket);
         loops.note_stalest(self.number, socket, found.map(|found| found.since));
     }

@@ -1,10 +1,11 @@
 //! What a loop notes of its clients in their slots.
 
 use crate::asks::{Answered, Delivered};
+use crate::register::Origin;
 use crate::roll::Roll;
 use mac_plain::{Came, Round};
 
-impl Roll {
+impl<O: Origin> Roll<O> {
     /// Takes nothing more from the client of a slot than what has come.
     pub fn end_reading(&mut self, slot: usize) {
         let Some(member) = self.connections.get_mut(slot) else {

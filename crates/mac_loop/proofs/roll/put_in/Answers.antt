@@ -1,14 +1,19 @@
-use Rattle.std.proofs.Common.{ap, ◌∙◌, ◌+◌, arith}
+use Rattle.std.proofs.Common.{ap, ◌∙◌, ◌+◌, arith, refl}
 use Rattle.std.specs.Arc.{arc_value}
 use Rattle.mac_loop.specs.Roll.{unsent_held, unsent_of}
 use Rattle.mac_loop.proofs.AliveLemmas.{begins}
 use Rattle.mac_loop.proofs.BacklogLemmas.{comes, still}
+use Rattle.mac_loop.proofs.RegisterLemmas.{calls}
 use Rattle.mac_loop.proofs.RollLemmas.{comes-back, frees-slot, one_each, reserves-slot}
 use Rattle.mac_loop.proofs.roll.put_in.Goals as goal
 
 pub new-member-requires : goal.new-member-requires
-new-member-requires g c = begins c.new-client.result c.args.client.port c.args.client.rights.value c.args.client.session
-    (ap (λ rights. arc_value rights) c.new-client.ensures.rights) c.new-client.ensures.port c.new-client.ensures.stands c.args.client.rests
+new-member-requires g c =
+    let same = ap (λ rights. arc_value rights) c.new-client.ensures.rights in
+    record {
+      lives = begins c.new-client.result c.args.client.port c.args.client.rights.value c.args.client.session same c.new-client.ensures.port c.new-client.ensures.stands c.args.client.rests;
+      called = calls _ _ _ _ _ refl same c.args.client.called;
+    }
 
 pub returns-then-is_err-clause-back : goal.returns-then-is_err-clause-back
 returns-then-is_err-clause-back g c =

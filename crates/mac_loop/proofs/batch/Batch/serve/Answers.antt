@@ -1,9 +1,11 @@
-use Rattle.std.proofs.Common.{rules, ℕ, List, ◌≡◌, ◌++◌, length, take, drop, All, sym, ap, subst, ◌∙◌}
+use Rattle.std.proofs.Common.{rules, ℕ, List, ◌≡◌, ◌++◌, length, take, drop, map, All, sym, ap, subst, ◌∙◌}
 use Rattle.std.proofs.Math.Seq.{take-append_seam}
 use Rattle.mac_plain.specs.declared.client.Client.{Client}
 use Rattle.mac_loop.specs.declared.port.SocketPort.{SocketPort}
 use Rattle.mac_loop.specs.Alive.{IsAlive}
+use Rattle.mac_loop.specs.Batch.{rights_of}
 use Rattle.mac_loop.proofs.AliveLemmas.{keeps}
+use Rattle.mac_loop.proofs.BatchLemmas.{same-rights}
 use Rattle.mac_loop.proofs.batch.Batch.serve.Goals as goal
 
 pub invariant_of-self : goal.invariant_of-self
@@ -18,4 +20,6 @@ invariant_of-self g c =
       alive = subst (λ (l : List (Client SocketPort)). All IsAlive l) (sym whole)
           (keeps (g.K.Outlook.known c.serve.new.outlook) olds news c.serve.ensures.serves same
           (subst (λ (l : List (Client SocketPort)). All IsAlive l) (sym c.as_mut_slice-clients.ensures.value) c.args.self.now.alive));
+      called = ap (λ l. map rights_of l) whole ∙ same-rights olds news same (λ k old new at at'. (c.serve.ensures.serves.each k old new at at').rights_kept)
+          ∙ ap (λ l. map rights_of l) c.as_mut_slice-clients.ensures.value ∙ c.args.self.now.called;
     }

@@ -1,4 +1,4 @@
-use Rattle.std.proofs.Common.{sym, subst}
+use Rattle.std.proofs.Common.{◌∙◌, ap, sym, subst}
 use Rattle.mac_plain.specs.Lives.{Rests}
 use Rattle.mac_loop.proofs.AliveLemmas.{leaves}
 use Rattle.mac_loop.proofs.members.Member.part.Goals as goal
@@ -9,4 +9,5 @@ invariant_of-result g c =
     record {
       rests = subst (λ parts. ∥ Rests parts.2.value parts.0.came parts.0.went parts.1 ∥₁) (sym c.into_parts-port.ensures.parts)
           (leaves member.client c.requires member.lives);
+      called = record { noted = member.called.noted; under = member.called.under ∙ sym (ap (λ parts. parts.2.value) c.into_parts-port.ensures.parts) };
     }

@@ -5,7 +5,7 @@ use Rattle.mac_loop.proofs.RollLemmas.{one_each, stays-in-slot}
 use Rattle.mac_loop.proofs.roll.Roll.drop_piece.Goals as goal
 
 pub invariant_of-self-2 : goal.invariant_of-self-2
-invariant_of-self-2 c =
+invariant_of-self-2 g c =
     let slots = c.args.self.now.connections.slots in
     let stays = stays-in-slot one_each slots c.args.slot c.in-Some.member.now c.drop_piece.new.self c.in-Some.ensures.value refl in
     let same = stays-in-slot unsent_of slots c.args.slot c.in-Some.member.now c.drop_piece.new.self c.in-Some.ensures.value (ap (λ session. length session.unsent) c.drop_piece.ensures) in

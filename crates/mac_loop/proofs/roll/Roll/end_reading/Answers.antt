@@ -6,7 +6,7 @@ use Rattle.mac_loop.proofs.RollLemmas.{listed-in-slot, one_each, stays-in-slot}
 use Rattle.mac_loop.proofs.roll.Roll.end_reading.Goals as goal
 
 pub invariant_of-self-2 : goal.invariant_of-self-2
-invariant_of-self-2 c =
+invariant_of-self-2 g c =
     let slots = c.args.self.now.connections.slots in
     let put = with_held slots c.args.slot c.end_reading.new.self in
     let stays = stays-in-slot one_each slots c.args.slot c.in-Some.member.now c.end_reading.new.self c.in-Some.ensures.value refl in

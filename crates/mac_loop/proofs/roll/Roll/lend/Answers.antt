@@ -7,7 +7,7 @@ use Rattle.mac_loop.proofs.RollLemmas.{comes-back, leaves-slot, one_each}
 use Rattle.mac_loop.proofs.roll.Roll.lend.Goals as goal
 
 pub invariant_of-self-in-Err : goal.invariant_of-self-in-Err
-invariant_of-self-in-Err c =
+invariant_of-self-in-Err g c =
     let slots = c.args.self.now.connections.slots in
     let left = leaves-slot one_each slots c.take.new.self c.args.slot Lent _ _ refl c.in-Some.ensures.connection c.in-Some.ensures.lent in
     let back = comes-back one_each c.take.new.self c.put.new.self c.args.slot _ c.put.result c.put.ensures.lent c.put.ensures.held c.in-Some.ensures.lent.this in
@@ -20,7 +20,7 @@ invariant_of-self-in-Err c =
     }
 
 pub invariant_of-self-in_default-push : goal.invariant_of-self-in_default-push
-invariant_of-self-in_default-push c =
+invariant_of-self-in_default-push g c =
     let slots = c.args.self.now.connections.slots in
     let left = leaves-slot one_each slots c.take.new.self c.args.slot Lent _ _ refl c.in-Some.ensures.connection c.in-Some.ensures.lent in
     let less = leaves-slot unsent_of slots c.take.new.self c.args.slot Lent _ _ refl c.in-Some.ensures.connection c.in-Some.ensures.lent in

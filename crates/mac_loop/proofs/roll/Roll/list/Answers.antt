@@ -5,7 +5,7 @@ use Rattle.mac_loop.proofs.RollLemmas.{listed-in-slot, one_each}
 use Rattle.mac_loop.proofs.roll.Roll.list.Goals as goal
 
 pub invariant_of-self : goal.invariant_of-self
-invariant_of-self c =
+invariant_of-self g c =
     let slots = c.args.self.now.connections.slots in
     let listed = listed-in-slot one_each slots c.args.slot in
     record {

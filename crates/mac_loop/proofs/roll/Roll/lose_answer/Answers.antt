@@ -5,7 +5,7 @@ use Rattle.mac_loop.proofs.RollLemmas.{changes-in-slot, one_each, stays-in-slot}
 use Rattle.mac_loop.proofs.roll.Roll.lose_answer.Goals as goal
 
 pub invariant_of-self-2 : goal.invariant_of-self-2
-invariant_of-self-2 c =
+invariant_of-self-2 g c =
     let slots = c.args.self.now.connections.slots in
     let put = with_held slots c.args.slot c.lose_answer.new.self in
     let stays = stays-in-slot one_each slots c.args.slot c.in-Some.member.now c.lose_answer.new.self c.in-Some.ensures.value refl in

@@ -1,12 +1,18 @@
-use Rattle.std.proofs.Common.{sym, subst}
+use Rattle.std.proofs.Common.{ap, sym, subst}
 use Rattle.mac_plain.specs.Lives.{Said}
 use Rattle.mac_loop.specs.Alive.{HasEndedWell}
 use Rattle.mac_loop.proofs.AliveLemmas.{speaks, speaks-all}
-use Rattle.mac_loop.proofs.ended.EndedLife.of.Goals as goal
+use Rattle.mac_loop.proofs.RegisterLemmas.{calls}
+use Rattle.mac_loop.proofs.ended.Leaver.of.Goals as goal
 
-pub invariant_of-result : goal.invariant_of-result
-invariant_of-result c = record {
+pub invariant_of-ended : goal.invariant_of-ended
+invariant_of-ended g c = record {
   said = subst (λ parts. ∥ Said parts.1.value parts.0.came parts.0.went ∥₁) (sym c.end-port.ensures) (speaks c.args.member.client c.args.member.lives);
   all = λ well. subst (λ parts. ∥ HasEndedWell parts.1.value parts.0.came parts.0.went ∥₁) (sym c.end-port.ensures)
       (speaks-all c.args.member.client (c.of-fault.ensures well) c.args.member.lives);
+}
+
+pub invariant_of-result : goal.invariant_of-result
+invariant_of-result g c = record {
+  called = calls _ _ _ _ _ c.life-life.ensures (ap (λ parts. parts.1.value) c.end-port.ensures) c.args.member.called;
 }

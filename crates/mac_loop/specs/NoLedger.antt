@@ -1,0 +1,6 @@
+-- A name for no ledger.
+use Rattle.std.specs.Prelude.{[]}
+use Rattle.atomic_table.specs.Seated.{TableId}
+
+abbrev pub no_ledger : TableId
+no_ledger = record { words = 0; slots = 0; views_name = 0; atom = 0; block = 0; offset = 0; slot_names = [] }
