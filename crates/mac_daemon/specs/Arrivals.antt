@@ -1,16 +1,21 @@
 -- What becomes of the connections that a daemon accepts.
-use Rattle.std.specs.Prelude.{◌≡◌, [], ◌∷◌, ◌++◌, ℕ, All, IfSome, List, Some, length}
+use Rattle.std.specs.Prelude.{◌≡◌, ℕ, ◌+◌, All, IfSome, List, Some, length}
+use Rattle.std.specs.List.{sum_by}
 use Rattle.std.specs.declared.alloc.Global.{Global}
 use Rattle.std.specs.declared.sync.Arc.{Arc}
 use Rattle.mac_decide.specs.declared.rights.Rights.{Rights}
 use Rattle.mac_host.specs.Badge.{socket_of_door}
-use Rattle.mac_loop.specs.declared.handover.Handover.{Handover}
+use Rattle.mac_host.specs.declared.badge.Badge.{Badge}
+use Rattle.mac_host.specs.declared.badge.Socket.{Socket}
+use Rattle.mac_loop.specs.Badges.{whose}
+use Rattle.mac_loop.specs.Register.{IsNoted, came, parts, went}
+use Rattle.mac_loop.specs.declared.register.Admitted.{Admitted}
+use Rattle.mac_loop.specs.declared.register.Origin.{Ghosts}
+use Rattle.mac_loop.specs.declared.register.Register.{Register}
 use Rattle.mac_sockets.specs.declared.door.Door.{Door}
 use Rattle.mac_daemon.specs.Gift.{GivesAt}
-use Rattle.mac_daemon.specs.Handed.{clients_of}
 use Rattle.mac_daemon.specs.declared.accepting.Newcomer.{Newcomer}
 use Rattle.mac_daemon.specs.declared.arrivals.Arrivals.{Arrivals}
-use Rattle.mac_daemon.specs.declared.handed.Handed.{Handed}
 
 -- the doors that connections come in by, with the rights that each gives
 abbrev pub DaemonDoors : Type 0
@@ -20,6 +25,13 @@ DaemonDoors = List (Door (Arc Rights Global))
 abbrev pub count_accepted : Arrivals → ℕ
 count_accepted arrivals = length arrivals.accepted
 
+-- what weighs by whose it is: of what was admitted, and of badges
+abbrev pub weigh_admitted : (ℕ × Socket → ℕ) → List Admitted → ℕ
+weigh_admitted weight all = sum_by (λ one. weight (one.number, one.socket)) all
+
+abbrev pub weigh_badges : (ℕ × Socket → ℕ) → List Badge → ℕ
+weigh_badges weight badges = sum_by (λ badge. weight (whose badge)) badges
+
 -- one came in by one of the doors: it is known by the socket of this door, and is given the rights
 -- that this door gives, where there is memory for that
 pub record IsArrived (doors : DaemonDoors) (newcomer : Newcomer) : Type 0 where
@@ -27,25 +39,40 @@ pub record IsArrived (doors : DaemonDoors) (newcomer : Newcomer) : Type 0 where
   pub socket : newcomer.badge.socket ≡ socket_of_door door
   pub rights : IfSome newcomer.rights (λ gift. GivesAt doors door gift.value)
 
--- a client of loops came in by one of the doors: it is known by the socket of this door, and its
--- requests are answered under the rights that this door gives
-pub record IsAdmitted (doors : DaemonDoors) (client : Handover) : Type 0 where
+-- one was admitted by one of the doors: it is known by the socket of this door, and its requests are
+-- answered under the rights that this door gives
+pub record IsAdmitted (doors : DaemonDoors) (one : Admitted) : Type 0 where
   pub door : ℕ
-  pub socket : client.badge.socket ≡ socket_of_door door
-  pub rights : GivesAt doors door client.rights.value
+  pub socket : one.socket ≡ socket_of_door door
+  pub rights : GivesAt doors door one.rights.value
 
--- so did each that was handed to a loop
-pub record AreAdmitted (doors : DaemonDoors) (arrivals : Arrivals) : Type 0 where
-  pub each : All (IsAdmitted doors) (clients_of arrivals.handed)
+-- one was admitted as this newcomer, with the rights that it was given
+pub record IsNewcomer (newcomer : Newcomer) (one : Admitted) : Type 0 where
+  pub noted : IsNoted one newcomer.badge
+  pub gift : Arc Rights Global
+  pub given : newcomer.rights ≡ Some gift
+  pub under : one.rights.value ≡ gift.value
 
--- whatever the doors: what was admitted is, and so is this one, if it came in by one of them
-abbrev pub AdmitsAt : Newcomer → Arrivals → Arrivals → Type 0
-AdmitsAt newcomer before after =
-    (doors : DaemonDoors) → IsArrived doors newcomer → AreAdmitted doors before → AreAdmitted doors after
+-- Behind so many arrivals, and as many further parts of the register: who has come in since is, each as
+-- often, who was handed to a loop or came back from that, and who has gone is who came back.
+pub record HaveCome {O : Type 0} {origin : Ghosts O} (start : Register O origin) (arrivals : Arrivals)
+    (register : Register O origin) : Type 0 where
+  pub ledger : register.ledger ≡ start.ledger
+  pub parts_are : parts register ≡ parts start
+  pub came_are : (weight : ℕ × Socket → ℕ) → weigh_admitted weight (came register)
+      ≡ weigh_admitted weight (came start) + weigh_badges weight arrivals.handed
+      + weigh_badges weight arrivals.returned
+  pub went_are : (weight : ℕ × Socket → ℕ) → weigh_admitted weight (went register)
+      ≡ weigh_admitted weight (went start) + weigh_badges weight arrivals.returned
 
--- one that was accepted was handed to a loop: as a client with its rights, at its socket
-pub record IsHandedOn (newcomer : Newcomer) (before after : Handed) : Type 0 where
-  pub client : Handover
-  pub handed : clients_of after ≡ clients_of before ++ client ∷ []
-  pub rights : newcomer.rights ≡ Some client.rights
-  pub socket : client.badge.socket ≡ newcomer.badge.socket
+-- all that the register has came in by these doors
+abbrev pub AreAdmitted : {O : Type 0} {origin : Ghosts O} → DaemonDoors → Register O origin → Type 0
+AreAdmitted doors register = All (IsAdmitted doors) (came register)
+
+-- whatever the doors and the beginning: one arrival more, and the register still has who came
+pub record KeepsRegister {O : Type 0} {origin : Ghosts O} (newcomer : Newcomer) (arrivals : Arrivals)
+    (register : Register O origin) (arrivals_then : Arrivals) (then : Register O origin) : Type 0 where
+  pub have_come : (start : Register O origin) → HaveCome start arrivals register
+      → HaveCome start arrivals_then then
+  pub admitted : (doors : DaemonDoors) → IsArrived doors newcomer → AreAdmitted doors register
+      → AreAdmitted doors then

@@ -1,11 +1,13 @@
 pub mod Arrivals
 pub mod Asked
 pub mod Books
+pub mod Crew
 pub mod Day
 pub mod EndedLoops
+pub mod Fates
 pub mod Gift
 pub mod Given
-pub mod Handed
 pub mod Homes
 pub mod Memory
 pub mod Room
+pub mod Serving

@@ -1,28 +1,34 @@
 //! The loop that accepts the connections of sockets: so many of them, or until it is shut.
-ghost use Rattle.std.specs.Prelude.{◌≡◌, ◌<◌, length, IfOk, IfSome, IsFalse, IsTrue, Some};
-ghost use Rattle.mac_daemon.specs.Arrivals.{IsHandedOn};
+ghost use Rattle.std.specs.Prelude.{◌≡◌, ◌≢◌, ◌<◌, length, IfOk, IfSome, IsTrue, OnErr};
+ghost use Rattle.mac_daemon.specs.Arrivals.{AreAdmitted, HaveCome, IsNewcomer};
 ghost use Rattle.mac_daemon.specs.Day.{IsDay, MeetsCount};
+ghost use Rattle.mac_daemon.specs.Fates.{HasFared};
 ghost use Rattle.mac_daemon.specs.Gift.{GivesAt};
-ghost use Rattle.mac_daemon.specs.Handed.{clients_of};
+ghost use Rattle.mac_daemon.specs.declared.accepting.Fate.TheVariants.{Handed, Refused, Returned};
 ghost use Rattle.mac_host.specs.Badge.{socket_of_door};
+ghost use Rattle.mac_loop.specs.Register.{HasAdmitted, HasMet, HasSeenOff, who};
 ghost use Rattle.mac_sockets.specs.Entrance.{doors_of, taken_of};
 
 use crate::arrivals::Arrivals;
 use crate::day::Day;
 use crate::door::Gift;
 use crate::fault::DaemonFault;
-use crate::handed::{FIRST_LOOP, Handed};
+use crate::fleet::Fleet;
 use crate::notice::Notice;
 use crate::quay::Quay;
 use crate::room::Entry;
 use mac_host::{Badge, Life, Socket};
-use mac_loop::{Handover, Loops};
+use mac_loop::{Handover, Loops, Origin, Register};
+use mac_mail::History;
 use mac_sockets::{Arrived, Entrance, Fresh};
 use std::alloc::Global;
 use std::io::ErrorKind;
 use std::sync::{Arc, Wait};
 use std::time::{Clock, Duration};
 use std::{io, thread};
+
+/// The loop that a connection begins in. From there it goes to others where that is busy.
+const FIRST_LOOP: usize = 0;
 
 /// How many milliseconds to wait where the system accepts no connection, for want of descriptors.
 const PAUSE_MILLIS: u64 = 100;
@@ -40,26 +46,28 @@ pub(crate) struct Newcomer {
 /// Accepts so many connections, where a count is given, and waits until all have ended. What became
 /// of those that were accepted is told. Without a count, connections are read no further than what
 /// has come once the entrance is shut.
-pub fn accept_to_end<R>(
+pub fn accept_to_end<O, R>(
     rt: &R,
-    alloc: Global,
     entrance: &mut Entrance<Gift>,
-    loops: &Loops,
-    quay: &Quay,
-    count: Option<u64>,
+    register: &mut Register<O>,
+    fleet: &Fleet<'_, O>,
 ) -> Result<Day, DaemonFault>
 where
+    O: Origin,
     R: Wait + Clock,
-    ensures day { IfOk result (IsDay count 0 entrance.old) }
+    ensures day { IfOk result (IsDay fleet.now.count 0 entrance.old) }
     ensures taken { IfOk result (λ day. day.served ≡ taken_of entrance.new) }
+    ensures admitted { AreAdmitted (doors_of entrance.old) register.old
+        → AreAdmitted (doors_of entrance.old) register.new }
+    ensures come { IfOk result (λ day. HaveCome register.old day.arrivals register.new) }
 {
-    let day = accept_each(rt, alloc, entrance, loops, quay, count);
+    let day = accept_each(rt, entrance, register, fleet);
     entrance.close();
-    if count.is_none() {
-        quay.say_left(rt);
-        loops.drain();
+    if fleet.count.is_none() {
+        fleet.quay.say_left(rt);
+        fleet.loops.drain();
     }
-    quay.await_end(rt);
+    fleet.quay.await_end(rt);
     day
 }
 
@@ -77,33 +85,36 @@ fn has_met(count: Option<u64>, served: u64) -> bool
 /// ended yet where it returns what became of those that were accepted. With a count, a socket that
 /// accepts nothing is an error; without one, it is asked again after a pause, until the entrance is
 /// shut and nobody waits there.
-fn accept_each<R>(
+fn accept_each<O, R>(
     rt: &R,
-    alloc: Global,
     entrance: &mut Entrance<Gift>,
-    loops: &Loops,
-    quay: &Quay,
-    count: Option<u64>,
+    register: &mut Register<O>,
+    fleet: &Fleet<'_, O>,
 ) -> Result<Day, DaemonFault>
 where
+    O: Origin,
     R: Wait + Clock,
-    ensures day { IfOk result (IsDay count 0 entrance.old) }
+    ensures day { IfOk result (IsDay fleet.now.count 0 entrance.old) }
     ensures taken { IfOk result (λ day. day.served ≡ taken_of entrance.new) }
+    ensures admitted { AreAdmitted (doors_of entrance.old) register.old
+        → AreAdmitted (doors_of entrance.old) register.new }
+    ensures come { IfOk result (λ day. HaveCome register.old day.arrivals register.new) }
 {
+    let count = fleet.count;
     let mut arrivals = Arrivals::none();
     for _ in rt.forever() {
         let served = entrance.taken();
         if has_met(count, served) {
             return Ok(Day::of(served, arrivals));
         }
-        loops.await_taken(rt, FIRST_LOOP);
+        fleet.loops.await_taken(rt, FIRST_LOOP);
         match entrance.accept(rt) {
             Some(Ok(arrived)) => {
-                let newcomer = receive(rt, entrance, arrived, quay);
-                arrivals.enter(rt, alloc, newcomer, loops, quay);
+                let newcomer = receive(rt, entrance, arrived, fleet.quay);
+                arrivals.enter(rt, newcomer, register, fleet);
             }
             Some(Err(fault)) if count.is_some() => return Err(DaemonFault::System(fault)),
-            Some(Err(fault)) => pause(rt, alloc, fault, quay),
+            Some(Err(fault)) => pause(rt, fleet.alloc, fault, fleet.quay),
             None if count.is_none() => return Ok(Day::of(served, arrivals)),
             None => return Err(DaemonFault::System(ErrorKind::ConnectionAborted.into())),
         }
@@ -136,69 +147,82 @@ fn pause<R: Wait + Clock>(rt: &R, alloc: Global, fault: io::Error, quay: &Quay) 
     thread::sleep(rt, Duration::from_millis(PAUSE_MILLIS));
 }
 
+/// What becomes of a connection that came in.
+#[derive(Clone, Copy)]
+pub(crate) enum Fate {
+    /// A loop has it.
+    Handed,
+    /// It was admitted, and closed, since there was no memory to hand it to a loop, or no room.
+    Returned,
+    /// It was closed, since there was no memory for it.
+    Refused,
+}
+
 /// Hands a connection to a loop, in the place of another one where there are as many as there may
-/// be. Whether one has it: else it is closed.
-pub(crate) fn enter<R: Wait + Clock>(
+/// be.
+pub(crate) fn enter<O: Origin, R: Wait + Clock>(
     rt: &R,
-    alloc: Global,
     newcomer: Newcomer,
-    loops: &Loops,
-    quay: &Quay,
-    handed: &mut Handed,
-) -> bool
-    ensures handed { IsTrue result → IsHandedOn newcomer handed.old handed.new }
-    ensures closed { IsFalse result → clients_of handed.new ≡ clients_of handed.old }
+    register: &mut Register<O>,
+    fleet: &Fleet<'_, O>,
+) -> Fate
+    ensures { HasFared newcomer register.old result register.new }
 {
     let badge = newcomer.badge;
-    let gives_way = match quay.enter(rt, badge.socket) {
+    let gives_way = match fleet.quay.enter(rt, badge.socket) {
         Entry::Free => {
             let mut newcomer = newcomer;
-            newcomer.badge = quay.listed(rt, badge);
-            return begin(rt, alloc, newcomer, loops, quay, handed);
+            newcomer.badge = fleet.quay.listed(rt, badge);
+            return begin(rt, newcomer, register, fleet);
         }
         Entry::SideFull => Socket::Side,
         Entry::Full(socket) => socket,
     };
-    match meet(alloc, newcomer, quay) {
-        Ok(client) => handed.hand(rt, loops, Some(gives_way), client),
-        Err(_) => false,
+    match meet(fleet.alloc, newcomer, fleet.quay, register) {
+        Ok(client) => hand(rt, fleet.loops, Some(gives_way), client, register),
+        Err(_) => Fate::Refused,
     }
 }
 
-/// Hands a connection that is counted to a loop. Whether there was memory for that: else it is
-/// closed, and that is told.
-fn begin<R: Wait + Clock>(
+/// Hands a connection that is counted to a loop. Where there is no memory for that it is closed,
+/// and that is told.
+fn begin<O: Origin, R: Wait + Clock>(
     rt: &R,
-    alloc: Global,
     newcomer: Newcomer,
-    loops: &Loops,
-    quay: &Quay,
-    handed: &mut Handed,
-) -> bool
-    ensures handed { IsTrue result → IsHandedOn newcomer handed.old handed.new }
-    ensures closed { IsFalse result → clients_of handed.new ≡ clients_of handed.old }
+    register: &mut Register<O>,
+    fleet: &Fleet<'_, O>,
+) -> Fate
+    ensures { HasFared newcomer register.old result register.new }
 {
     let life = Life {
         badge: newcomer.badge,
         answered: 0,
     };
-    let notice = match meet(alloc, newcomer, quay) {
-        Ok(client) => {
-            if handed.hand(rt, loops, None, client) {
-                return true;
-            }
-            Notice::NoMemory
+    let client = match meet(fleet.alloc, newcomer, fleet.quay, register) {
+        Ok(client) => client,
+        Err(notice) => {
+            fleet.quay.refuse(rt, life, notice);
+            return Fate::Refused;
         }
-        Err(notice) => notice,
     };
-    quay.refuse(rt, life, notice);
-    false
+    let fate = hand(rt, fleet.loops, None, client, register);
+    if let Fate::Returned = fate {
+        fleet.quay.refuse(rt, life, Notice::NoMemory);
+    }
+    fate
 }
 
-/// A connection as loops have it.
-fn meet(alloc: Global, newcomer: Newcomer, quay: &Quay) -> Result<Handover, Notice>
-    ensures rights { IfOk result (λ client. newcomer.rights ≡ Some client.rights) }
-    ensures badge { IfOk result (λ client. client.badge ≡ newcomer.badge) }
+/// A connection as loops have it: it is admitted.
+fn meet<O: Origin>(
+    alloc: Global,
+    newcomer: Newcomer,
+    quay: &Quay,
+    register: &mut Register<O>,
+) -> Result<Handover<O>, Notice>
+    ensures one { IfOk result (λ client. IsNewcomer newcomer (who client.presence)) }
+    ensures admitted { IfOk result (λ client.
+        HasAdmitted register.old (who client.presence) register.new) }
+    ensures same { OnErr result (HasMet register.old 0 register.new) }
 {
     let Newcomer {
         stream,
@@ -208,8 +232,37 @@ fn meet(alloc: Global, newcomer: Newcomer, quay: &Quay) -> Result<Handover, Noti
     let Some(rights) = rights else {
         return Err(Notice::NoMemory);
     };
-    match Handover::begin(alloc, stream, quay.transcript(alloc), rights, badge) {
+    let transcript = quay.transcript(alloc);
+    match Handover::begin(alloc, stream, transcript, rights, badge, register) {
         Ok(client) => Ok(client),
         Err(_) => Err(Notice::System),
+    }
+}
+
+/// Hands a client to the first loop, or to one of which a client of a socket is to give way to it.
+/// Where none takes it, it goes.
+fn hand<O: Origin, R: Wait>(
+    rt: &R,
+    loops: &Loops<O>,
+    gives_way: Option<Socket>,
+    client: Handover<O>,
+    register: &mut Register<O>,
+) -> Fate
+    ensures handed { result ≡ Handed → HasMet register.old 0 register.new }
+    ensures returned { result ≡ Returned
+        → HasSeenOff register.old (who client.presence) register.new }
+    ensures never { result ≢ Refused }
+{
+    let mut noted = History::new();
+    let left = match gives_way {
+        None => loops.hand(rt, FIRST_LOOP, client, &mut noted),
+        Some(socket) => loops.hand_displacing(rt, socket, client, &mut noted),
+    };
+    match left {
+        Ok(()) => Fate::Handed,
+        Err(client) => {
+            client.leave(register);
+            Fate::Returned
+        }
     }
 }

@@ -1,13 +1,11 @@
 //! What a daemon is asked for, and what it did.
 
-ghost use Rattle.mac_daemon.specs.Day.{OneLoopMore};
-
 use crate::arrivals::Arrivals;
 use crate::door::Gift;
 use crate::ended_loops::EndedLoops;
 use crate::fault::DaemonFault;
 use mac_decide::Macaroons;
-use mac_loop::EndedLoop;
+use mac_loop::Outcomes;
 use mac_pool::Finished;
 use mac_sockets::Entrance;
 use std::snapshot::Snapshot;
@@ -29,8 +27,10 @@ pub struct Day {
 }
 
 impl Day {
-    ghost use Rattle.std.specs.Prelude.{◌≡◌, []};
+    ghost use Rattle.std.specs.Prelude.{◌≡◌, [], ◌∷◌, ◌++◌};
     ghost use Rattle.mac_daemon.specs.EndedLoops.{outcomes_of};
+    ghost use Rattle.mac_daemon.specs.Given.{count_given};
+    ghost use Rattle.mac_loop.specs.Gone.{count_gone};
 
     /// So many connections were accepted, and this became of them. No loop has ended.
     pub(crate) fn of(served: u64, arrivals: Arrivals) -> Day
@@ -46,18 +46,17 @@ impl Day {
             books: None,
         }
     }
-}
 
-/// What a daemon did, with one more of its loops that has ended.
-pub(crate) fn with_loop(
-    day: Result<Day, DaemonFault>,
-    ended: &EndedLoop,
-) -> Result<Day, DaemonFault>
-    ensures { OneLoopMore day result }
-{
-    let mut day = day?;
-    day.loops.add(ended);
-    Ok(day)
+    /// One more of its loops has ended, with this account of those that it was given.
+    pub(crate) fn add_loop(&mut self, outcomes: &Outcomes)
+        requires { count_given outcomes.now ≡ count_gone outcomes.now }
+        ensures served { self.new.served ≡ self.old.served }
+        ensures arrivals { self.new.arrivals ≡ self.old.arrivals }
+        ensures loops { outcomes_of self.new.loops
+            ≡ outcomes_of self.old.loops ++ outcomes.now ∷ [] }
+    {
+        self.loops.add(outcomes);
+    }
 }
 
 /// Whom a daemon is asked to admit.

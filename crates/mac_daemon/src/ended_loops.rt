@@ -4,7 +4,7 @@ ghost use Rattle.std.specs.Prelude.{◌≡◌, [], ◌∷◌, ◌++◌, map, sum
 ghost use Rattle.mac_daemon.specs.Given.{count_given};
 ghost use Rattle.mac_loop.specs.Gone.{count_gone};
 
-use mac_loop::{EndedLoop, Outcomes};
+use mac_loop::Outcomes;
 use mac_mail::History;
 
 /// What became of the connections that loops were given which have ended: each loop handed on,
@@ -30,9 +30,10 @@ impl EndedLoops {
     }
 
     /// One more has.
-    pub(crate) fn add(&mut self, ended: &EndedLoop)
-        ensures { outcomes_of self.new ≡ outcomes_of self.old ++ ended.now.outcomes ∷ [] }
+    pub(crate) fn add(&mut self, outcomes: &Outcomes)
+        requires { count_given outcomes.now ≡ count_gone outcomes.now }
+        ensures { outcomes_of self.new ≡ outcomes_of self.old ++ outcomes.now ∷ [] }
     {
-        self.outcomes.add(&ended.outcomes);
+        self.outcomes.add(outcomes);
     }
 }

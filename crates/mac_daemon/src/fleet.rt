@@ -1,28 +1,31 @@
 //! The threads of a daemon: its loops, its workers, and who accepts.
 ghost use denote.Param.Send.{IsSend, IsSync};
 ghost use Rattle.std.specs.Prelude.{◌≡◌, ◌-◌, IfOk, OnErr, length};
-ghost use Rattle.mac_daemon.specs.Day.{IsDay, IsWholeDay};
+ghost use Rattle.mac_daemon.specs.Arrivals.{AreAdmitted};
+ghost use Rattle.mac_daemon.specs.Crew.{count_crew};
+ghost use Rattle.mac_daemon.specs.Day.{HasRegistered, IsDay, IsWholeDay};
 ghost use Rattle.mac_daemon.specs.Homes.{AreHome};
 ghost use Rattle.mac_daemon.specs.Memory.{tokens_memory};
 ghost use Rattle.mac_loop.specs.Asks.{home_of};
 ghost use Rattle.mac_pool.specs.Pool.{IsGiven};
 ghost use Rattle.mac_queue.specs.Putting.{pass_of};
+ghost use Rattle.mac_sockets.specs.Entrance.{doors_of};
 
 use crate::accepting::accept_to_end;
-use crate::day::{Day, with_loop};
+use crate::crew::Crew;
+use crate::day::Day;
 use crate::door::Gift;
 use crate::fault::DaemonFault;
 use crate::quay::Quay;
 use mac_board::{Follower, Followers, TimedTables};
 use mac_decide::{Macaroons, SeenTokens};
 use mac_host::Ending;
-use mac_loop::{EndedLoop, Loop, LoopTerms, Loops, make_loops};
+use mac_loop::{EndedLoop, Loop, LoopParts, LoopTerms, Loops, Origin, Register};
 use mac_pool::{Desk, Pool};
 use mac_sockets::{Entrance, STACK, SharedBudget, has_roomy_stacks};
 use mac_system::SystemMoments;
-use std::alloc::Global;
+use std::alloc::{AllocError, Global};
 use std::hash::RandomState;
-use std::net::Net;
 use std::random::RandomSource;
 use std::snapshot::Snapshot;
 use std::sync::{Arc, Wait};
@@ -68,6 +71,22 @@ impl Shape {
         self.memory.saturating_sub(self.tokens_memory())
     }
 
+    /// What its loops are made of, which share this memory of tokens, and this budget of what their
+    /// clients hold.
+    pub fn loop_parts(
+        self,
+        seen: &SeenTokens,
+        budget: &Arc<SharedBudget, Global>,
+    ) -> Result<LoopParts, AllocError>
+        ensures { IfOk result (λ parts. parts.terms.count ≡ self.loops) }
+    {
+        Ok(LoopParts {
+            terms: self.loop_terms(has_roomy_stacks()),
+            seen: seen.share()?,
+            budget: Arc::try_clone(budget)?,
+        })
+    }
+
     /// What its loops are held to.
     fn loop_terms(self, may_share: bool) -> LoopTerms
         ensures memory { result.memory ≡ self.memory - tokens_memory self }
@@ -82,36 +101,6 @@ impl Shape {
             may_share,
             memory: self.connections_memory(),
         }
-    }
-}
-
-/// Loops that have no threads yet.
-#[derive(Drop)]
-pub struct Idlers {
-    loops: Arc<Loops, Global>,
-    made: Vec<Box<Loop>>,
-}
-
-impl Idlers {
-    /// As many loops as a daemon of this shape has, which share a memory of tokens, and the budget
-    /// of what their clients hold.
-    pub fn make<R: Net + Wait>(
-        rt: &R,
-        alloc: Global,
-        shape: Shape,
-        seen: &SeenTokens,
-        budget: &Arc<SharedBudget, Global>,
-    ) -> Result<Idlers, DaemonFault> {
-        let terms = shape.loop_terms(has_roomy_stacks());
-        let (loops, made) = make_loops(rt, alloc, terms, seen, budget)?;
-        Ok(Idlers { loops, made })
-    }
-
-    /// How many loops there are.
-    pub fn count(&self) -> usize
-        ensures { result ≡ length self.now.made.items }
-    {
-        self.made.len()
     }
 }
 
@@ -145,75 +134,85 @@ pub fn make_seen<R: RandomSource + Eprint>(rt: &R, alloc: Global, shape: Shape) 
 pub struct FleetParts {
     /// How many workers answer what loops must not.
     pub workers: usize,
-    /// The loops that answer all else.
-    pub idlers: Idlers,
     /// Where connections come in.
     pub entrance: Entrance<Gift>,
     /// How many of them are accepted: without a number, one after another until that is shut.
     pub count: Option<u64>,
     /// What the threads tell one another.
     pub quay: Arc<Quay, Global>,
+    /// The followers of the key tables, one for each loop.
+    pub followers: Followers,
+    /// How the daemon comes to its end.
+    pub ending: Arc<Ending, Global>,
 }
 
 /// What a daemon's threads are started beside.
-#[derive(Clone, Copy)]
-struct Fleet<'a> {
-    loops: &'a Arc<Loops, Global>,
-    quay: &'a Arc<Quay, Global>,
+#[derive(Drop)]
+pub(crate) struct Fleet<'a, O: Origin> {
+    pub(crate) alloc: Global,
+    pub(crate) loops: &'a Arc<Loops<O>, Global>,
+    pub(crate) quay: &'a Arc<Quay, Global>,
     followers: &'a Followers,
     ending: &'a Ending,
-    count: Option<u64>,
+    /// How many connections are accepted: without a number, one after another.
+    pub(crate) count: Option<u64>,
 }
 
 /// A loop's desk comes back from its thread.
 #[derive(Drop)]
 struct SameDesk(Snapshot<Desk<Macaroons>>);
 
-impl Promise<EndedLoop> for SameDesk {
+impl<O: Origin> Promise<EndedLoop<O>> for SameDesk {
     ghost use Rattle.std.specs.Prelude.{◌≡◌};
     ghost use Rattle.mac_loop.specs.Asks.{home_of};
 
     ghost kept_by = { λ p ended. home_of ended.desk ≡ home_of p.0.value };
 }
 
-type LoopThread = PromisedHandle<EndedLoop, SameDesk>;
+type LoopThread<O> = PromisedHandle<EndedLoop<O>, SameDesk>;
 
 /// Starts the workers and the loops, serves the connections that come in, so many where a count is
 /// given, and ends the threads once all connections have ended. The day has the books of the
-/// workers.
-pub fn run_fleet<R>(
+/// workers, and an account of the connections.
+pub fn run_fleet<O, R>(
     rt: &R,
     alloc: Global,
     parts: FleetParts,
-    followers: &Followers,
-    ending: &Ending,
+    crew: Crew<O>,
 ) -> Result<Day, DaemonFault>
 where
+    O: Origin + Send + 'static,
     R: Threads + Wait + Clock + Sync + Copy + Send + 'static,
-    ensures { IfOk result (IsWholeDay parts.count (length parts.idlers.made.items) parts.workers
-        parts.entrance) }
+    ensures { IfOk result (IsWholeDay parts.count (count_crew crew) parts.workers parts.entrance) }
 {
     let FleetParts {
         workers,
-        idlers,
         mut entrance,
         count,
         quay,
-    } = parts;
-    let Idlers { loops, made } = idlers;
-    let mut pool = Pool::start(rt, alloc, workers)?;
-    let fleet = Fleet {
-        loops: &loops,
-        quay: &quay,
         followers,
         ending,
+    } = parts;
+    let Crew {
+        loops,
+        made,
+        mut register,
+    } = crew;
+    let mut pool = Pool::start(rt, alloc, workers)?;
+    let fleet = Fleet {
+        alloc,
+        loops: &loops,
+        quay: &quay,
+        followers: &followers,
+        ending: &ending,
         count,
     };
-    let day = run_loops(rt, alloc, &mut pool, made, &mut entrance, fleet);
+    let day = run_loops(rt, &mut pool, made, &mut entrance, &mut register, &fleet);
     let Ok(books) = pool.finish(rt) else {
         unreachable!()
     };
     let mut day = day?;
+    register.settle();
     day.faults = quay.faults();
     day.books = Some(books);
     Ok(day)
@@ -221,51 +220,61 @@ where
 
 /// Runs these loops, each in a thread at a desk of the pool, while connections come in. Each desk
 /// goes home, whether there is a thread for each loop or not. What became of the connections of
-/// each loop is told with the day.
-fn run_loops<R>(
+/// each loop is told with the day, and its part of the register comes back.
+fn run_loops<O, R>(
     rt: &R,
-    alloc: Global,
     pool: &mut Pool<Macaroons>,
-    mut made: Vec<Box<Loop>>,
+    mut made: Vec<Box<Loop<O>>>,
     entrance: &mut Entrance<Gift>,
-    fleet: Fleet<'_>,
+    register: &mut Register<O>,
+    fleet: &Fleet<'_, O>,
 ) -> Result<Day, DaemonFault>
 where
+    O: Origin + Send + 'static,
     R: Threads + Wait + Clock + Sync + Copy + Send + 'static,
-    ensures day { IfOk result (IsDay fleet.entry.count (length made.items) entrance.old) }
+    ensures day { IfOk result (IsDay fleet.now.count (length made.items) entrance.old) }
     ensures home { AreHome pool.old pool.new }
+    ensures admitted { IfOk result (λ _. AreAdmitted (doors_of entrance.old) register.old
+        → AreAdmitted (doors_of entrance.old) register.new) }
+    ensures registered { IfOk result (λ day.
+        HasRegistered register.old day (length made.items) register.new) }
 {
     let Some(one) = made.pop() else {
         fleet.ending.begin(rt);
-        let day = accept_to_end(rt, alloc, entrance, fleet.loops, fleet.quay, fleet.count);
+        let day = accept_to_end(rt, entrance, register, fleet);
         fleet.loops.close();
         return day;
     };
-    let thread = match start_loop(*rt, alloc, pool, one, fleet) {
+    let thread = match start_loop(*rt, pool, one, fleet) {
         Ok(thread) => thread,
         Err(fault) => {
             fleet.loops.close();
             return Err(fault);
         }
     };
-    let day = run_loops(rt, alloc, pool, made, entrance, fleet);
-    let ended = thread.join(rt);
-    let day = with_loop(day, &ended);
-    let EndedLoop { desk, outcomes: _ } = ended;
+    let day = run_loops(rt, pool, made, entrance, register, fleet);
+    let EndedLoop {
+        desk,
+        outcomes,
+        register: part,
+    } = thread.join(rt);
     pool.home(desk);
-    day
+    register.join(part);
+    let mut day = day?;
+    day.add_loop(&outcomes);
+    Ok(day)
 }
 
 /// Starts the thread of a loop, at a desk of the pool. Where the system gives none, all loops are
 /// closed: this one ends here, since it has nobody, and its desk goes home.
-fn start_loop<R>(
+fn start_loop<O, R>(
     rt: R,
-    alloc: Global,
     pool: &mut Pool<Macaroons>,
-    one: Box<Loop>,
-    fleet: Fleet<'_>,
-) -> Result<LoopThread, DaemonFault>
+    one: Box<Loop<O>>,
+    fleet: &Fleet<'_, O>,
+) -> Result<LoopThread<O>, DaemonFault>
 where
+    O: Origin + Send + 'static,
     R: Threads + Wait + Clock + Sync + Copy + Send + 'static,
     ensures desk { IfOk result (λ thread.
         IsGiven pool.old (pass_of thread.promise.0.value.putter) pool.new) }
@@ -274,10 +283,10 @@ where
     let keys = fleet.followers.follower()?;
     let quay = Arc::try_clone(fleet.quay)?;
     let loops = Arc::try_clone(fleet.loops)?;
-    let desk = pool.desk(alloc)?;
+    let desk = pool.desk(fleet.alloc)?;
     let promise = SameDesk(Snapshot::of(&desk));
-    let work = move || -> EndedLoop
-        requires { IsSend R.row × IsSync R.row }
+    let work = move || -> EndedLoop<O>
+        requires { IsSend O.row × (IsSend R.row × IsSync R.row) }
         ensures { home_of result.desk ≡ home_of desk }
     {
         let (one, keys, desk) = (one, keys, desk);
@@ -293,6 +302,7 @@ where
             let EndedLoop {
                 desk: unused,
                 outcomes: _,
+                register: _,
             } = (refused.value)();
             pool.home(unused);
             Err(DaemonFault::NoThread)
@@ -301,15 +311,16 @@ where
 }
 
 /// Runs a loop to its end, at this desk, which comes back with what became of its connections.
-fn run_loop<R>(
+fn run_loop<O, R>(
     rt: &R,
-    one: Box<Loop>,
-    loops: &Loops,
+    one: Box<Loop<O>>,
+    loops: &Loops<O>,
     keys: Follower,
     quay: &Quay,
     desk: Desk<Macaroons>,
-) -> EndedLoop
+) -> EndedLoop<O>
 where
+    O: Origin,
     R: Threads + Wait + Clock + Sync,
     ensures { home_of result.desk ≡ home_of desk }
 {

@@ -7,13 +7,13 @@
 
 mod accepting;
 mod arrivals;
+mod crew;
 mod day;
 mod descriptors;
 mod door;
 mod ended_loops;
 mod fault;
 mod fleet;
-mod handed;
 mod listening;
 mod notice;
 mod quay;

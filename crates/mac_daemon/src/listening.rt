@@ -1,25 +1,32 @@
 //! The daemon: its assembly, from its sockets to its end.
 
-ghost use Rattle.std.specs.Prelude.{◌≡◌, IfOk, length};
+ghost use Rattle.std.specs.Prelude.{◌≡◌, ◌+◌, IfOk};
+ghost use denote.Param.Send.{IsSend, IsSync};
 ghost use Rattle.mac_daemon.specs.Asked.{count_of, daemon_doors, entrance_of, loops_of, workers_of};
+ghost use Rattle.mac_daemon.specs.Crew.{count_crew};
 ghost use Rattle.mac_daemon.specs.Day.{IsWholeDay};
+ghost use Rattle.mac_daemon.specs.Serving.{Promises};
+ghost use Rattle.mac_loop.specs.Ledger.{IsFreshBook, all_books, name_of};
 ghost use Rattle.mac_sockets.specs.Entrance.{doors_of, opened, taken_of};
 
+use crate::crew::{Crew, open_ledger};
 use crate::day::{Admission, Day};
 use crate::descriptors::most_connections;
 use crate::door::Gift;
 use crate::fault::DaemonFault;
-use crate::fleet::{FleetParts, Idlers, Shape, make_seen, run_fleet};
+use crate::fleet::{FleetParts, Shape, make_seen, run_fleet};
 use crate::quay::Quay;
 use crate::room::Most;
 use crate::stop::Stop;
 use crate::surroundings::{Surroundings, heed_signals};
 use mac_board::Followers;
 use mac_host::{Beginning, Ending, Host, Logged, Notices, Numbers, Roster};
+use mac_loop::{Admitted, Ledger, LedgerBook, LoopParts, Origin};
 use mac_sockets::{Doors, Entrance, Holdings, STACK, SharedBudget};
 use mac_system::{NotifySocket, State};
 use std::alloc::{AllocError, Global};
 use std::fs::Files;
+use std::marker::Brand;
 use std::net::Net;
 use std::random::RandomSource;
 use std::snapshot::Snapshot;
@@ -109,14 +116,16 @@ where
     )?;
     let seen = make_seen(rt, alloc, terms.shape);
     let budget = SharedBudget::new(alloc, terms.shape.connections_memory())?;
+    let loops = terms.shape.loop_parts(&seen, &budget)?;
     let service = FleetParts {
         workers: terms.shape.workers,
-        idlers: Idlers::make(rt, alloc, terms.shape, &seen, &budget)?,
         entrance,
         count: terms.accept,
         quay: Arc::try_clone(&quay)?,
+        followers,
+        ending: Arc::try_clone(&ending)?,
     };
-    let serving = start_serving(*rt, alloc, service, followers, &ending)?;
+    let serving = start_serving(*rt, alloc, service, &loops)?;
     if !ending.await_begin(rt) {
         let fault = serving.join(rt).err();
         return Err(fault.unwrap_or(DaemonFault::NoThread));
@@ -235,33 +244,64 @@ fn start_serving<R>(
     rt: R,
     alloc: Global,
     service: FleetParts,
-    followers: Followers,
-    ending: &Arc<Ending, Global>,
+    loops: &LoopParts,
 ) -> Result<Serving, DaemonFault>
 where
-    R: Threads + Wait + Clock + Sync + Copy + Send + 'static,
-    ensures count { IfOk result (λ serving. serving.promise.count ≡ service.count) }
-    ensures loops { IfOk result (λ serving. serving.promise.loops
-        ≡ length service.idlers.made.items) }
-    ensures workers { IfOk result (λ serving. serving.promise.workers ≡ service.workers) }
-    ensures doors { IfOk result (λ serving. doors_of serving.promise.entrance.value
-        ≡ doors_of service.entrance) }
-    ensures taken { IfOk result (λ serving. taken_of serving.promise.entrance.value
-        ≡ taken_of service.entrance) }
+    R: Threads + Net + Wait + Clock + Sync + Copy + Send + 'static,
+    ensures { IfOk result (λ serving.
+        Promises service loops.now.terms.count serving.promise) }
 {
-    let ending = Arc::try_clone(ending)?;
+    let ledger = open_ledger(alloc, loops.terms.count)?;
+    start_crew::<Brand, R>(rt, alloc, service, loops, ledger)
+}
+
+/// The same, with loops whose connections are in this ledger, of which this is the book.
+fn start_crew<O, R>(
+    rt: R,
+    alloc: Global,
+    service: FleetParts,
+    loops: &LoopParts,
+    ledger: (Arc<Ledger<Admitted>, Global>, LedgerBook<Admitted>),
+) -> Result<Serving, DaemonFault>
+where
+    O: Origin + Send + 'static,
+    R: Threads + Net + Wait + Clock + Sync + Copy + Send + 'static,
+    requires ledger { name_of ledger.0.value ≡ O.ledger }
+    requires books { all_books ledger.0.value ≡ loops.now.terms.count + 1 }
+    requires book { IsFreshBook ledger.0.value (loops.now.terms.count + 1) ledger.1 }
+    ensures { IfOk result (λ serving.
+        Promises service loops.now.terms.count serving.promise) }
+{
+    let (ledger, book) = ledger;
+    let crew: Crew<O> = Crew::make(&rt, alloc, loops, ledger, book)?;
+    start_thread(rt, alloc, service, crew)
+}
+
+/// The same, with these loops.
+fn start_thread<O, R>(
+    rt: R,
+    alloc: Global,
+    service: FleetParts,
+    crew: Crew<O>,
+) -> Result<Serving, DaemonFault>
+where
+    O: Origin + Send + 'static,
+    R: Threads + Wait + Clock + Sync + Copy + Send + 'static,
+    ensures { IfOk result (λ serving. Promises service (count_crew crew) serving.promise) }
+{
     let admission = Admission {
         count: service.count,
-        loops: service.idlers.count(),
+        loops: crew.count(),
         workers: service.workers,
         entrance: Snapshot::of(&service.entrance),
     };
+    let ending = Arc::try_clone(&service.ending)?;
     let work = move || -> Result<Day, DaemonFault>
+        requires { IsSend O.row × (IsSend R.row × IsSync R.row) }
         ensures { IfOk result
-            (IsWholeDay service.count (length service.idlers.made.items) service.workers
-            service.entrance) }
+            (IsWholeDay service.count (count_crew crew) service.workers service.entrance) }
     {
-        let outcome = run_fleet(&rt, alloc, service, &followers, &ending);
+        let outcome = run_fleet(&rt, alloc, service, crew);
         ending.finish(&rt);
         outcome
     };

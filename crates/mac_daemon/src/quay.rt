@@ -2,6 +2,7 @@
 //! is printed.
 
 ghost use Rattle.std.specs.Prelude.{◌≡◌};
+ghost use Rattle.mac_loop.specs.Badges.{IsSameBadge};
 
 use crate::notice::Notice;
 use crate::room::{Entry, Most, Room};
@@ -81,7 +82,7 @@ impl Quay {
 
     /// The same of a connection that is counted, listed until it ends.
     pub fn listed<R: Wait>(&self, rt: &R, badge: Badge) -> Badge
-        ensures { result.socket ≡ badge.socket }
+        ensures { IsSameBadge badge result }
     {
         let Badge {
             number,

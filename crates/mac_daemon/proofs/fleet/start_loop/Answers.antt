@@ -13,10 +13,10 @@ use Rattle.mac_sockets.proofs.Sent.{six_sent}
 use Rattle.mac_daemon.proofs.fleet.start_loop.Goals as goal
 
 pub spawn_with-requires-send-F : goal.spawn_with-requires-send-F
-spawn_with-requires-send-F g c κs within = param_send _ _ (arg_send _ no _ (six_sent _ _ _ _ _ _ _ (Box-send _ loop_sent) follower_sent desk_sent (copied_send _ _ c.type_bounds.send-R) (Arc-send _ loops_sent loops_shared) (Arc-send _ quay.the_send quay.the_sync)))
+spawn_with-requires-send-F g c κs within = param_send _ _ (arg_send _ no _ (six_sent _ _ _ _ _ _ _ (Box-send _ (loop_sent _ _ c.type_bounds.send-O)) follower_sent desk_sent (copied_send _ _ c.type_bounds.send-R) (Arc-send _ (loops_sent _ _ c.type_bounds.send-O) (loops_shared _ _ c.type_bounds.send-O)) (Arc-send _ quay.the_send quay.the_sync)))
 
 pub spawn_with-requires-send-T : goal.spawn_with-requires-send-T
-spawn_with-requires-send-T g c κs within = param_send _ _ (arg_send _ no _ ended_sent)
+spawn_with-requires-send-T g c κs within = param_send _ _ (arg_send _ no _ (ended_sent _ _ c.type_bounds.send-O))
 
 pub returns-in-Err-clause-home : goal.returns-in-Err-clause-home
 returns-in-Err-clause-home g c =
