@@ -105,8 +105,9 @@ impl<T> Play<T, Leaf<T>> for Settles {
 
 type Leaves<T> = Table<T, Leaf<T>, usize, InBalance, Global>;
 
-/// What came in and what has gone. It is told by books, one of each thread, and by an entry for each
-/// that is there. These take no room. What comes in costs two steps on one word, and what goes one.
+/// What came in and what has gone. It is told by books, one of each thread, and by an entry for
+/// each that is there. These take no room. What comes in costs two steps on one word, and what goes
+/// one.
 #[derive(Drop)]
 pub struct Ledger<T> {
     leaves: Leaves<T>,

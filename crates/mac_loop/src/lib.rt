@@ -9,9 +9,9 @@
 //! A loop's clients are in its roll, and none leaves that without an outcome: it is handed on, its
 //! end is told, or it is turned away. An [`EndedLoop`] says so of all that the loop was given.
 //!
-//! Which connections a daemon admitted, and which have gone, its threads note in a [`Register`], each
-//! in its own part of it: what a loop has of a connection has a [`Presence`], which only an admission
-//! makes.
+//! Which connections a daemon admitted, and which have gone, its threads note in a [`Register`],
+//! each in its own part of it. What a loop has of a connection has a [`Presence`], which only an
+//! admission makes.
 //!
 //! A client's value carries its life: a [`Handover`], what the slots and the turns of a loop hold,
 //! and the [`EndedLife`] that a [`Watch`] is told each have a fact on what came and went so far.

@@ -12,8 +12,8 @@ use std::marker::{Brand, PhantomData};
 use std::snapshot::Snapshot;
 use std::sync::Arc;
 
-/// Stands in a type for one daemon's ledger, which is known only once the daemon runs: whoever opens
-/// the ledger picks it for [`Brand`] at a call.
+/// Stands in a type for one daemon's ledger, which is known only once the daemon runs: whoever
+/// opens the ledger picks it for [`Brand`] at a call.
 pub trait Origin {
     ghost use Rattle.atomic_table.specs.Seated.{TableId};
 
@@ -65,8 +65,8 @@ pub struct Settled {
 }
 
 impl<O: Origin> Register<O> {
-    ghost use Rattle.mac_loop.specs.Register.{HasAdmitted, HasSeenOff, IsBegun, IsCalled, StandsForMore};
-    ghost use Rattle.mac_loop.specs.Register.{came, parts, went, who};
+    ghost use Rattle.mac_loop.specs.Register.{HasAdmitted, HasSeenOff, IsBegun, IsCalled};
+    ghost use Rattle.mac_loop.specs.Register.{StandsForMore, came, parts, went, who};
     ghost use Rattle.mac_loop.specs.Settled.{all_admitted, all_gone};
 
     /// The register of this ledger, with this book.

@@ -144,8 +144,8 @@ where
     Ok(())
 }
 
-/// A board whose first table is what the files gave: the keys, and beside them the list, where there
-/// is one.
+/// A board whose first table is what the files gave: the keys, and beside them the list, where
+/// there is one.
 fn open_editor<R>(rt: &R, found: Found<'_>) -> Result<Editor<R>, AllocError>
 where
     R: Alloc<A = Global> + Wait + Copy + Drop,
