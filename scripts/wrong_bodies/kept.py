@@ -17,7 +17,6 @@ HEAD = """\
 """
 # How many digits of a digest are written.
 DIGITS = 12
-NO_DIGEST = "-"
 
 
 class Kept:
@@ -71,8 +70,8 @@ def tried_as(crate):
 
 
 def is_as_tried(top, crate, row):
-    """Whether the crate is still what its line in the table was written of; of an old line nobody knows."""
-    return row[1] in (NO_DIGEST, tried_as(top / "crates" / crate))
+    """Whether the crate is still what its line in the table was written of; a line without a digest can't say so."""
+    return row[1] == tried_as(top / "crates" / crate)
 
 
 def told_by_git(top, *words):
