@@ -13,4 +13,4 @@ pub mod Judged
 pub mod Names
 pub mod Fingerprint
 pub mod Warned
-pub mod Outcome
+pub mod CallOutcome

@@ -20,7 +20,7 @@ use Rattle.mac_decide.specs.contracts.job.JobEq.TheImpl as job_eq
 use Rattle.mac_decide.specs.contracts.job.JobPartialEq.TheImpl as job_partial_eq
 use Rattle.mac_decide.specs.contracts.macaroons.Macaroons as Macaroons
 use Rattle.mac_decide.specs.contracts.macaroons.MacaroonsService.TheImpl as service
-use Rattle.mac_host.proofs.ending.Ending.TheSendSync as ending
+use Rattle.mac_host.proofs.ending.DaemonEnd.TheSendSync as ending
 use Rattle.mac_loop.proofs.Sent.{loop_sent, loops_sent, loops_shared, register_field_sent}
 use Rattle.mac_loop.specs.contracts.outcomes.EndedLoop as EndedLoop
 use Rattle.mac_loop.specs.contracts.outcomes.Outcomes as Outcomes

@@ -19,7 +19,7 @@ use crate::fault::DaemonFault;
 use crate::quay::Quay;
 use mac_board::{Follower, Followers, TimedTables};
 use mac_decide::{Macaroons, SeenTokens};
-use mac_host::Ending;
+use mac_host::DaemonEnd;
 use mac_loop::{EndedLoop, Loop, LoopParts, LoopTerms, Loops, Origin, Register};
 use mac_pool::{Desk, Pool};
 use mac_sockets::{Entrance, STACK, SharedBudget, has_roomy_stacks};
@@ -143,7 +143,7 @@ pub struct FleetParts {
     /// The followers of the key tables, one for each loop.
     pub followers: Followers,
     /// How the daemon comes to its end.
-    pub ending: Arc<Ending, Global>,
+    pub ending: Arc<DaemonEnd, Global>,
 }
 
 /// What a daemon's threads are started beside.
@@ -153,7 +153,7 @@ pub(crate) struct Fleet<'a, O: Origin> {
     pub(crate) loops: &'a Arc<Loops<O>, Global>,
     pub(crate) quay: &'a Arc<Quay, Global>,
     followers: &'a Followers,
-    ending: &'a Ending,
+    ending: &'a DaemonEnd,
     /// How many connections are accepted: without a number, one after another.
     pub(crate) count: Option<u64>,
 }

@@ -20,7 +20,7 @@ use crate::room::Most;
 use crate::stop::Stop;
 use crate::surroundings::{Surroundings, heed_signals};
 use mac_board::Followers;
-use mac_host::{Beginning, Ending, Host, Logged, Notices, Numbers, Roster};
+use mac_host::{Beginning, DaemonEnd, Host, Logged, Notices, Numbers, Roster};
 use mac_loop::{Admitted, Ledger, LedgerBook, LoopParts, Origin};
 use mac_sockets::{Doors, Entrance, Holdings, STACK, SharedBudget};
 use mac_system::{NotifySocket, State};
@@ -96,7 +96,7 @@ where
         is_journal,
     } = surroundings;
     let entrance = Entrance::open(rt, alloc, doors)?;
-    let ending = Ending::new(alloc)?;
+    let ending = DaemonEnd::new(alloc)?;
     let stop = Stop::new(&ending, entrance.shutter())?;
     let notices = start_notices(*rt, alloc, is_journal, terms)?;
     if let Some(signals) = signals {

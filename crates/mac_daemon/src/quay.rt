@@ -6,7 +6,7 @@ ghost use Rattle.mac_loop.specs.Badges.{IsSameBadge};
 
 use crate::notice::Notice;
 use crate::room::{Entry, Most, Room};
-use mac_count::Request;
+use mac_count::AnsweredRequest;
 use mac_host::{Badge, Exchange, Life, Notices, Numbers, Roster, Socket, microseconds};
 use mac_loop::{EndedLife, Transcript, Turn, Watch};
 use mac_mail::{Bell, History};
@@ -245,7 +245,7 @@ impl Watch for Quay {
         self.roster.set_wide(life, true);
     }
 
-    fn narrow(&self, life: Life, answered: Option<Request>, micros: u64) {
+    fn narrow(&self, life: Life, answered: Option<AnsweredRequest>, micros: u64) {
         self.numbers.count_narrowed(answered, micros);
         self.roster.set_wide(life, false);
     }

@@ -9,7 +9,7 @@ use crate::answering::Answering;
 use crate::connection::HttpConnection;
 use crate::turns::Turns;
 use mac_host::microseconds_of;
-use mac_sockets::{Account, Connections, Holds, REST_MIN, Readiness, SharedBudget, heaviest};
+use mac_sockets::{BudgetAccount, Connections, Holds, REST_MIN, Readiness, SharedBudget, heaviest};
 use mio::{Token, Waker};
 use std::alloc::Global;
 use std::collections::VecDeque;
@@ -39,7 +39,7 @@ struct PutOff {
 pub struct Waiting {
     connections: Connections<HttpConnection>,
     // What they have of the memory of all.
-    account: Account,
+    account: BudgetAccount,
     // Those that are ready and have a dear request.
     dear: Turns,
     // Both in microseconds.
@@ -63,7 +63,7 @@ impl Waiting {
     {
         let (connections, waker) = Connections::new(rt, alloc)?;
         let waiting = Waiting {
-            account: Account::open(rt, budget, connections.waker()?)?,
+            account: BudgetAccount::open(rt, budget, connections.waker()?)?,
             connections,
             dear: Turns::new(alloc),
             patience,

@@ -20,7 +20,7 @@ mod traffic;
 
 pub use badge::{Badge, Life, Socket};
 pub use clock::{microseconds, microseconds_of};
-pub use ending::Ending;
+pub use ending::DaemonEnd;
 pub use exchange::{
     Exchange, Logged, LoggedReason, copy_identifier_of, copy_told_id, copy_told_identifier,
     copy_told_name,
@@ -29,5 +29,5 @@ pub use host::Host;
 pub use notices::{Beginning, HEAVY, Notices};
 pub use numbers::Numbers;
 pub use roster::Roster;
-pub use standing::Call;
+pub use standing::Instruction;
 pub use traffic::Traffic;

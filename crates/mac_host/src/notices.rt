@@ -5,7 +5,7 @@ use crate::clock::microseconds;
 use crate::exchange::{Exchange, Logged};
 use crate::minted::minted_fields;
 use crate::requested::request_fields;
-use mac_board::{ListNews, ListRefusal, News, Refusal};
+use mac_board::{ListNews, ListRefusal, News, KeyFileRefusal};
 use mac_log::{Fields, Key, Kind, Log, NoMemory, start_log};
 use std::alloc::Global;
 use std::fmt::Display;
@@ -302,7 +302,7 @@ fn taken_fields(alloc: Global, file: &str, names: usize) -> Result<Fields, NoMem
         .with_number(alloc, Key::Names, names as u64)
 }
 
-fn refused_fields(alloc: Global, file: &str, why: Refusal) -> Result<Fields, NoMemory> {
+fn refused_fields(alloc: Global, file: &str, why: KeyFileRefusal) -> Result<Fields, NoMemory> {
     let why = why.to_string(alloc)?;
     Fields::new(alloc)
         .with_text(Key::File, file.as_bytes())?

@@ -7,7 +7,7 @@ ghost use Rattle.mac_http.specs.Faced.{IsAnswer, IsPlainAnswer};
 ghost use Rattle.mac_http.specs.Happened.{Happens, HappensPlainly};
 ghost use Rattle.mac_http.specs.Turn.{AnswersOnce};
 
-use crate::calling::{Asked, Called, call_in, respond_to_call};
+use crate::calling::{PathCall, Called, call_in, respond_to_call};
 use crate::footing::Footing;
 use crate::happened::Happened;
 use crate::page::{Monitor, announce_close, page_in, tell_page};
@@ -17,7 +17,7 @@ use bytes::Bytes;
 use http::{Request, StatusCode};
 use http_server::{Response, Service};
 use mac_board::{Moments, Tables};
-use mac_calls::{Call, Outcome};
+use mac_calls::{Call, CallOutcome};
 use std::alloc::{AllocError, Global};
 
 /// Answers the requests of connections, each under the table that is up and at a moment that its
@@ -110,7 +110,7 @@ fn answer<'a, S: Monitor>(
     match page_in(request.uri().path().as_bytes()) {
         Some(page) => {
             tell_page(alloc, footing, monitor, page, response);
-            Happened::Told
+            Happened::PageTold
         }
         None => answer_plain(alloc, footing, monitor, request, response),
     }
@@ -149,10 +149,10 @@ fn answer_call<S: Monitor>(
     alloc: Global,
     footing: Footing<'_>,
     monitor: &S,
-    asked: Asked<'_>,
+    asked: PathCall<'_>,
     request: &Request<Bytes>,
     response: &mut Response,
-) -> Option<Outcome>
+) -> Option<CallOutcome>
     requires { IsBlank response.old }
     ensures told { RespondsToCall footing.entry.keys.now footing.entry.rules footing.entry.moment
         (asked.entry.call, asked.entry.name.now) request.now response.new }

@@ -12,7 +12,7 @@ use crate::port::SocketPort;
 use crate::register::{Origin, Presence};
 use crate::watch::{PlainFault, Watch};
 use mac_board::{Current, Outlook};
-use mac_count::Request;
+use mac_count::AnsweredRequest;
 use mac_decide::{Job, Macaroons};
 use mac_host::{Badge, Life, Traffic};
 use mac_order::Answer;
@@ -225,7 +225,7 @@ impl<O: Origin> Member<O> {
         &mut self,
         round: &mut Round,
         answer: Option<Answer<Macaroons>>,
-    ) -> Option<Request> {
+    ) -> Option<AnsweredRequest> {
         match answer {
             Some(answer) => round.deliver(&mut self.client, answer),
             None => {

@@ -25,7 +25,7 @@ struct Words {
 }
 
 /// A wait that is announced. It goes to [`Bell::sleep`] or to [`Bell::withdraw`] of its bell.
-pub struct Notice {
+pub struct AnnouncedWait {
     rings: u32,
 }
 
@@ -42,25 +42,25 @@ impl Bell {
     }
 
     /// Announces a wait. Look after it at everything that is waited for, then sleep or withdraw.
-    pub fn announce(&self) -> Notice {
+    pub fn announce(&self) -> AnnouncedWait {
         let words = &*self.words;
         words.sleepers.fetch_add(1, SeqCst);
         let rings = (words.rings.load(SeqCst) & 0xffff_ffff) as u32;
         // Rings before this one are answered by the look that follows.
         words.is_answered.store(false, SeqCst);
-        Notice { rings }
+        AnnouncedWait { rings }
     }
 
     /// Sleeps until a ring after the announcement. It may return for no reason: look again.
-    pub fn sleep<R: Wait>(&self, rt: &R, notice: Notice) {
-        let Notice { rings } = notice;
+    pub fn sleep<R: Wait>(&self, rt: &R, notice: AnnouncedWait) {
+        let AnnouncedWait { rings } = notice;
         self.words.rings.park(rt, rings);
         self.leave();
     }
 
     /// Ends a wait that found something. Look again once that is dealt with.
-    pub fn withdraw(&self, notice: Notice) {
-        let Notice { rings: _ } = notice;
+    pub fn withdraw(&self, notice: AnnouncedWait) {
+        let AnnouncedWait { rings: _ } = notice;
         self.leave();
     }
 

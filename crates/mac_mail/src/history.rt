@@ -8,15 +8,15 @@ use std::snapshot::Snapshot;
 
 /// What was added, the last on top. A value has one byte and lives for a moment.
 #[derive(Drop)]
-pub enum Pages<T> {
+pub enum HistoryPages<T> {
     Blank,
-    After(Snapshot<Pages<T>>, Snapshot<T>),
+    After(Snapshot<HistoryPages<T>>, Snapshot<T>),
 }
 
 /// What happened so far, one entry behind another. It takes no bytes and no time.
 #[derive(Drop)]
 pub struct History<T> {
-    pages: Snapshot<Pages<T>>,
+    pages: Snapshot<HistoryPages<T>>,
 }
 
 impl<T> Model for History<T> {
@@ -37,7 +37,7 @@ impl<T> History<T> {
         ensures { result ≡ [] }
     {
         History {
-            pages: Snapshot::of(&Pages::Blank),
+            pages: Snapshot::of(&HistoryPages::Blank),
         }
     }
 
@@ -45,8 +45,8 @@ impl<T> History<T> {
     pub fn add(&mut self, entry: &T)
         ensures { self.new ≡ self.old ++ entry.now ∷ [] }
     {
-        let before = mem::replace(&mut self.pages, Snapshot::of(&Pages::Blank));
-        let after = Pages::After(before, Snapshot::of(entry));
+        let before = mem::replace(&mut self.pages, Snapshot::of(&HistoryPages::Blank));
+        let after = HistoryPages::After(before, Snapshot::of(entry));
         self.pages = Snapshot::of(&after);
     }
 }

@@ -12,7 +12,7 @@ mod post;
 mod receipt;
 mod taker;
 
-pub use bell::{Bell, Notice};
+pub use bell::{Bell, AnnouncedWait};
 pub use closing::{Closed, Closing, Open};
 pub use fault::PutFault;
 pub use history::History;

@@ -4,7 +4,7 @@ ghost use Rattle.std.specs.Prelude.{◌≡◌, Option, [], ◌∷◌, ◌++◌, 
 ghost use Rattle.mac_mail.specs.Post.{entry_of, handled, IsDelivered};
 ghost use Rattle.crossbeam_queue.specs.Passes.{view, IsSamePass};
 
-use crate::bell::{Bell, Notice};
+use crate::bell::{Bell, AnnouncedWait};
 use crate::closing::{Closed, Closing};
 use crate::post::Post;
 use crate::receipt::{Delivery, Receipt};
@@ -31,9 +31,9 @@ pub struct Handled<J> {
 }
 
 /// Anybody may push and pop at any time; each is told to the pass that made it.
-pub struct Told;
+pub struct OpenToAll;
 
-impl<S: Service> Protocol<Post<S>, Handled<S::Job>> for Told {
+impl<S: Service> Protocol<Post<S>, Handled<S::Job>> for OpenToAll {
     ghost use Rattle.std.specs.Prelude.{⊤, []};
 
     ghost holds = { λ items views. ⊤ };
@@ -41,13 +41,13 @@ impl<S: Service> Protocol<Post<S>, Handled<S::Job>> for Told {
     ghost first = { handled [] [] };
 }
 
-pub struct Puts;
+pub struct Posting;
 
-impl<S: Service> Outcome<Post<S>, Handled<S::Job>> for Puts {
+impl<S: Service> Outcome<Post<S>, Handled<S::Job>> for Posting {
     ghost then = { λ v post w. w ≡ handled (v.posted ++ entry_of post ∷ []) v.taken };
 }
 
-impl<S: Service> Lesson<Post<S>, Handled<S::Job>> for Puts {
+impl<S: Service> Lesson<Post<S>, Handled<S::Job>> for Posting {
     ghost use Rattle.std.specs.Prelude.{⊤};
 
     ghost fact = { λ v items. ⊤ };
@@ -70,7 +70,7 @@ pub(crate) type MailPass<S> = Pass<Post<S>, Handled<<S as Service>::Job>>;
 /// Posts wait here, at most 128, for the one who takes them.
 #[derive(Drop)]
 pub struct Mailbox<S: Service> {
-    queue: RuledArrayQueue<Post<S>, Handled<S::Job>, Told>,
+    queue: RuledArrayQueue<Post<S>, Handled<S::Job>, OpenToAll>,
     // Who waits for posts sleeps on it.
     pub(crate) posts: Bell,
     // Where who waits for posts waits by a poll, this ends its wait.
@@ -124,7 +124,7 @@ impl<S: Service> Mailbox<S> {
         ensures back { IfErr result (λ back. back ≡ post) }
     {
         let mut pass = self.queue.pass();
-        self.queue.push_as::<Puts, R>(rt, &mut pass, post)?;
+        self.queue.push_as::<Posting, R>(rt, &mut pass, post)?;
         self.tell_came();
         Ok(pass)
     }
@@ -143,18 +143,18 @@ impl<S: Service> Mailbox<S> {
     }
 
     /// Announces a wait until so many posts have come. Look once more after it.
-    pub fn announce_answers(&self, count: u64) -> Notice {
+    pub fn announce_answers(&self, count: u64) -> AnnouncedWait {
         self.awaited.store(count, SeqCst);
         self.answers.announce()
     }
 
     /// Sleeps until these posts may have come.
-    pub fn sleep_answers<R: Wait>(&self, rt: &R, notice: Notice) {
+    pub fn sleep_answers<R: Wait>(&self, rt: &R, notice: AnnouncedWait) {
         self.answers.sleep(rt, notice);
     }
 
     /// Ends a wait for posts that have come.
-    pub fn withdraw_answers(&self, notice: Notice) {
+    pub fn withdraw_answers(&self, notice: AnnouncedWait) {
         self.answers.withdraw(notice);
     }
 
@@ -242,7 +242,7 @@ impl<S: Service> Mailbox<S> {
         place <= self.due.load(SeqCst)
     }
 
-    pub(crate) fn announce(&self, due: u64) -> Notice {
+    pub(crate) fn announce(&self, due: u64) -> AnnouncedWait {
         self.due.store(due, SeqCst);
         self.posts.announce()
     }

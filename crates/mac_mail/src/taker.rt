@@ -5,7 +5,7 @@ ghost use Rattle.std.specs.Arc.{arc_value};
 ghost use Rattle.mac_mail.specs.Post.{entry_of};
 ghost use Rattle.mac_mail.specs.Taking.{fresh_taking, with_taken};
 
-use crate::bell::Notice;
+use crate::bell::AnnouncedWait;
 use crate::mailbox::{MailPass, Mailbox};
 use crate::post::Post;
 use mac_order::{NoMemory, Service};
@@ -88,24 +88,24 @@ impl<S: Service> Taker<S> {
 
     /// Announces a wait for a post or a ring. Look after it at everything that is waited for, and
     /// then sleep, or withdraw where something was found.
-    pub fn announce(&self) -> Notice {
+    pub fn announce(&self) -> AnnouncedWait {
         self.mail.announce(u64::MAX)
     }
 
     /// Announces a wait for the post at this place, for one before it, or for a ring. A worker that
     /// posts at a later place wakes nobody. Look after it as after [`Taker::announce`].
-    pub fn announce_due(&self, place: u64) -> Notice {
+    pub fn announce_due(&self, place: u64) -> AnnouncedWait {
         self.mail.announce(place)
     }
 
     /// Sleeps until a post or a ring after the announcement. It may return for no reason: look
     /// again.
-    pub fn sleep<R: Wait>(&self, rt: &R, notice: Notice) {
+    pub fn sleep<R: Wait>(&self, rt: &R, notice: AnnouncedWait) {
         self.mail.posts.sleep(rt, notice);
     }
 
     /// Ends a wait that found something. Look again once that is dealt with.
-    pub fn withdraw(&self, notice: Notice) {
+    pub fn withdraw(&self, notice: AnnouncedWait) {
         self.mail.posts.withdraw(notice);
     }
 

@@ -1,4 +1,4 @@
 pub mod Home
 pub mod Paged
 pub mod Route
-pub mod Told
+pub mod SiteTold

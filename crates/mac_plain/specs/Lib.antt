@@ -11,5 +11,5 @@ pub mod RoundView
 pub mod Receiving
 pub mod Rounds
 pub mod Shares
-pub mod Tally
+pub mod RequestTally
 pub mod Memory

@@ -8,6 +8,6 @@ mod queue;
 mod ticket;
 
 pub use desk::{Desk, Putter};
-pub use mac_mail::{Mailbox, Notice, Post, PutFault, Taker};
+pub use mac_mail::{Mailbox, AnnouncedWait, Post, PutFault, Taker};
 pub use queue::{Claim, PASSES, PUTS_MAX, QUEUE_MAX, Queue, QueuePass, Tally};
 pub use ticket::Ticket;

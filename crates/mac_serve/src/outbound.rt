@@ -2,7 +2,7 @@
 
 ghost use Rattle.std.specs.Prelude.{◌≡◌, ◌<◌, [], Ok};
 
-use crate::signals::Signals;
+use crate::signals::HalfSignals;
 use mac_decide::{Macaroons, laws};
 use mac_mail::{Post, Taker};
 use mac_order::Next;
@@ -217,7 +217,7 @@ impl Outbound {
         &mut self,
         rt: &R,
         sink: &mut W,
-        signals: &Signals,
+        signals: &HalfSignals,
     ) -> Result<(), OutboundFault>
         requires { W.faults sink.old < u64.MAX }
         ensures { SendsAll W.tells (W.written sink.old) (W.written sink.new)
@@ -250,7 +250,7 @@ impl Outbound {
     }
 
     /// Whether answers will come for the slips that are open.
-    fn awaits_answers(&self, signals: &Signals) -> bool {
+    fn awaits_answers(&self, signals: &HalfSignals) -> bool {
         self.ring.open_slips() > 0 && !signals.has_inbound_failed()
     }
 
@@ -278,7 +278,7 @@ impl Outbound {
         rt: &R,
         sink: &mut W,
         unsent: &mut Unsent,
-        signals: &Signals,
+        signals: &HalfSignals,
     ) -> Result<(), OutboundFault>
         ensures { SendsBoth W.tells unsent.old unsent.new (W.written sink.old)
             (W.written sink.new) (W.faults sink.old) (W.faults sink.new) result self.old self.new }
@@ -298,7 +298,7 @@ impl Outbound {
         rt: &R,
         sink: &mut W,
         unsent: &mut Unsent,
-        signals: &Signals,
+        signals: &HalfSignals,
     ) -> Result<(), OutboundFault>
         ensures { SendsBoth W.tells unsent.old unsent.new (W.written sink.old)
             (W.written sink.new) (W.faults sink.old) (W.faults sink.new) result self.old self.new }

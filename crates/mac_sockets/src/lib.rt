@@ -6,7 +6,7 @@
 //! [`Stream`], over a Unix socket or over TCP, which goes to a thread by that one's [`Inbox`]. That
 //! thread has its [`Connections`] in slots, waits for what a poll tells of them, and takes turns
 //! over those that are ready. The loops have the memory of their connections of one
-//! [`SharedBudget`], by an [`Account`] each. Nothing here knows what is said on a stream.
+//! [`SharedBudget`], by an [`BudgetAccount`] each. Nothing here knows what is said on a stream.
 #![tactic(auto)]
 
 mod account;
@@ -24,7 +24,7 @@ mod place;
 mod stacks;
 mod stream;
 
-pub use account::{Account, SharedBudget};
+pub use account::{BudgetAccount, SharedBudget};
 pub use budget::Budget;
 pub use connections::{Connections, REST_MIN, Readiness, Wakes};
 pub use door::Door;

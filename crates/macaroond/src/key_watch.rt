@@ -18,7 +18,7 @@ use mac_daemon::{
 };
 use mac_decide::Rights;
 use mac_gate::{Address, DoorFault, ServerFault};
-use mac_host::{Call, Host};
+use mac_host::{Instruction, Host};
 use mac_sockets::{Door, Doors, Holdings, PathClaim, PlaceFault};
 use mac_system::handed_listener;
 use std::alloc::{Alloc, AllocError, Global};
@@ -281,9 +281,9 @@ where
     let mut editor = editor;
     for _ in rt.forever() {
         match host.ending().await_call(rt, pause) {
-            Call::End => return editor,
-            Call::Look => editor = look_once(rt, followed, editor, host),
-            Call::Nothing => {}
+            Instruction::End => return editor,
+            Instruction::Look => editor = look_once(rt, followed, editor, host),
+            Instruction::Nothing => {}
         }
         if let Some(path) = holdings.look(rt, socket) {
             daemon.end_replaced(rt, path);

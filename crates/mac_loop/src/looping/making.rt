@@ -12,7 +12,7 @@ use crate::meter::Shares;
 use crate::register::{Origin, Register};
 use crate::roll::{Roll, Wakers};
 use mac_plain::Round;
-use mac_sockets::{Account, Inbox, SharedBudget, WaitFault};
+use mac_sockets::{BudgetAccount, Inbox, SharedBudget, WaitFault};
 use mio::Waker;
 use std::alloc::{AllocError, Global};
 use std::net::Net;
@@ -92,7 +92,7 @@ fn make_loop<O: Origin, R: Net + Wait>(
 /// answer, and by who hands it a client.
 #[derive(Drop)]
 struct Ends<O: Origin> {
-    account: Account,
+    account: BudgetAccount,
     asks: Waker,
     inbox: Inbox<Handover<O>>,
 }
@@ -109,7 +109,7 @@ fn open_ends<O: Origin, R: Wait>(
         asks,
         budget: waker,
     } = wakers;
-    let account = Account::open(rt, budget, waker)?;
+    let account = BudgetAccount::open(rt, budget, waker)?;
     let inbox = Inbox::new(alloc, inbox)?;
     Ok(Ends {
         account,

@@ -34,9 +34,9 @@ impl<S: Service> Protocol<Ticket<S>, Books<S>> for Balance {
 }
 
 /// A fresh pass is cut off.
-pub struct Cut;
+pub struct CutOff;
 
-impl<J, M> Split<Account<J, M>> for Cut {
+impl<J, M> Split<Account<J, M>> for CutOff {
     ghost left = { λ a. account (a.parts - 1) [] [] };
 
     ghost right = { λ a. account 1 [] [] };

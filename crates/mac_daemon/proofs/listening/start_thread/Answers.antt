@@ -3,7 +3,7 @@ use denote.Param.Send.{arg_send, copied_send, param_send}
 use Rattle.std.proofs.Crossing.{Arc-send, send}
 use Rattle.mac_daemon.proofs.Sent.{crew_sent, outcome_sent, parts_sent}
 use Rattle.mac_sockets.proofs.Sent.{five_sent}
-use Rattle.mac_host.proofs.ending.Ending.TheSendSync as ending
+use Rattle.mac_host.proofs.ending.DaemonEnd.TheSendSync as ending
 use Rattle.mac_daemon.proofs.listening.start_thread.Goals as goal
 
 pub spawn_with-requires-send-F : goal.spawn_with-requires-send-F

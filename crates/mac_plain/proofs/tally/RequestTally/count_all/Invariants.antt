@@ -2,7 +2,7 @@ use Rattle.std.proofs.Common.{◌≡◌, map, drop}
 use Rattle.mac_count.specs.RequestCounts.{with_all_counted}
 use Rattle.mac_decide.specs.Viewed.{viewed}
 use Rattle.mac_plain.specs.Tally.{counts_of, requests_of}
-use Rattle.mac_plain.proofs.tally.Tally.count_all.Given as goal
+use Rattle.mac_plain.proofs.tally.RequestTally.count_all.Given as goal
 
 abbrev pub invariant-loop-index : goal.invariant-loop-index
 invariant-loop-index l =

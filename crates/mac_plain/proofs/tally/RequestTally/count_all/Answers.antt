@@ -3,7 +3,7 @@ use Rattle.mac_count.specs.RequestCounts.{with_all_counted}
 use Rattle.mac_decide.specs.Viewed.{viewed}
 use Rattle.mac_plain.specs.Tally.{counts_of, requests_of}
 use Rattle.mac_plain.proofs.Tallies.{one-counted, all-counted}
-use Rattle.mac_plain.proofs.tally.Tally.count_all.Goals as goal
+use Rattle.mac_plain.proofs.tally.RequestTally.count_all.Goals as goal
 
 pub loop-index-preserved : goal.loop-index-preserved
 loop-index-preserved c =
