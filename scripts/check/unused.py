@@ -25,7 +25,7 @@ MEANT = {
     "mac_wire::mem_sink::MemSink::new": MEMORY,
     "mac_wire::mem_source::MemSource::new": MEMORY,
     "mac_wire::reply::reply_bytes": LIBRARY,
-    "mac_ring::intake::Intake::free_slips": "tells whether the next admit succeeds, as its contract says",
+    "mac_order::intake::Intake::free_slips": "tells whether the next admit succeeds, as its contract says",
     "mac_serve::caller::Caller::new": WHOLE,
     "mac_serve::fault::ServeFault::code": WHOLE,
     "mac_serve::whole::serve_all": WHOLE,

@@ -87,7 +87,12 @@ impl Watcher {
 
     /// Takes in what a look found, where a table of so many names is up. Where memory runs out,
     /// nothing is taken in.
-    pub fn look(&mut self, alloc: Global, names: usize, sight: Sight) -> Result<KeyFileFinding, AllocError>
+    pub fn look(
+        &mut self,
+        alloc: Global,
+        names: usize,
+        sight: Sight,
+    ) -> Result<KeyFileFinding, AllocError>
         ensures ok { IfOk result (λ finding. Sees self.old names sight finding self.new) }
         ensures err { OnErr result (self.new ≡ self.old) }
     {
@@ -172,7 +177,9 @@ fn value(alloc: Global, names: usize, sight: Sight) -> Result<KeyFileFinding, Al
 {
     match sight {
         Sight::Glance(FileState::Missing) => Ok(KeyFileFinding::Refused(KeyFileRefusal::Missing)),
-        Sight::Glance(FileState::Unknown) => Ok(KeyFileFinding::Refused(KeyFileRefusal::Unreadable)),
+        Sight::Glance(FileState::Unknown) => Ok(KeyFileFinding::Refused(
+            KeyFileRefusal::Unreadable,
+        )),
         Sight::Glance(FileState::Marked(_)) => Ok(KeyFileFinding::Nothing),
         Sight::Read {
             text: Err(ReadFault::Unreadable),
@@ -202,7 +209,9 @@ fn judge(alloc: Global, names: usize, text: &[u8]) -> Result<KeyFileFinding, All
     ensures { IfOk result (λ finding. finding ≡ judged names (table_of text.now)) }
 {
     match KeyTable::read(alloc, text) {
-        Ok(table) if table.len() == 0 && names > 0 => Ok(KeyFileFinding::Refused(KeyFileRefusal::Emptied)),
+        Ok(table) if table.len() == 0 && names > 0 => Ok(KeyFileFinding::Refused(
+            KeyFileRefusal::Emptied,
+        )),
         Ok(table) => Ok(KeyFileFinding::Table(table)),
         Err(KeyFault::Line { line, kind }) => {
             Ok(KeyFileFinding::Refused(KeyFileRefusal::Faulty { line, kind }))

@@ -68,7 +68,8 @@ impl CallOutcome {
                 why: CallRefusal::Token(why),
                 ..
             } => Some(*why),
-            CallOutcome::Minted { .. } | CallOutcome::Reply(_) | CallOutcome::Refused { .. } => None,
+            CallOutcome::Minted { .. } | CallOutcome::Reply(_) | CallOutcome::Refused { .. } =>
+                None,
         }
     }
 }

@@ -24,7 +24,7 @@ mod received;
 mod verifier;
 mod warned;
 
-pub use answering::{Brought, Draws, CallOutcome, answer};
+pub use answering::{Brought, CallOutcome, Draws, answer};
 pub use call::Call;
 pub use counted::{FACT_MAX, counted_facts};
 pub use fault::{BodyFault, CallRefusal};

@@ -2,7 +2,7 @@
 
 ghost use Rattle.mac_count.specs.Number.{IsGauge};
 
-use crate::number::{NUMBERS, Number, REQUESTS, AnsweredRequest};
+use crate::number::{AnsweredRequest, NUMBERS, Number, REQUESTS};
 use crate::snapshot::Snapshot;
 use crate::times::{BUCKETS, bucket_of};
 use std::array;

@@ -3,7 +3,7 @@
 ghost use Rattle.std.specs.Prelude.{◌≡◌};
 ghost use Rattle.mac_count.specs.RequestCounts.{no_counts, with_counted};
 
-use crate::number::{REQUESTS, AnsweredRequest};
+use crate::number::{AnsweredRequest, REQUESTS};
 
 /// How many requests were answered since that was last taken, each kind at its place.
 #[derive(Clone, Copy, Debug, PartialEq, Eq)]

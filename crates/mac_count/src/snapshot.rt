@@ -4,7 +4,7 @@ ghost use Rattle.std.specs.Prelude.{◌≡◌, min, sum};
 ghost use Rattle.mac_count.specs.Texts.{number_value, request_value};
 ghost use Rattle.mac_count.specs.Times.{timed, within};
 
-use crate::number::{NUMBERS, Number, REQUESTS, AnsweredRequest};
+use crate::number::{AnsweredRequest, NUMBERS, Number, REQUESTS};
 use crate::times::{BUCKETS, bucket_of};
 
 /// A number for each [`Number`] and one for each [`AnsweredRequest`], at its place.

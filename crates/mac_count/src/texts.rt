@@ -9,7 +9,7 @@ ghost use Rattle.mac_count.specs.Texts.{request_line, request_metric, status_lin
 ghost use Rattle.mac_count.specs.Texts.{type_line, value_line, value_text};
 
 use crate::NoMemory;
-use crate::number::{Asked, Number, AnsweredRequest, Told};
+use crate::number::{AnsweredRequest, Asked, Number, Told};
 use crate::snapshot::Snapshot;
 use crate::time_texts::{append_times, append_times_lines};
 use mac_wire::Refusal;

@@ -7,7 +7,7 @@ use crate::accepting::{Fate, Newcomer, enter};
 use crate::fleet::Fleet;
 use mac_host::Badge;
 use mac_loop::{Origin, Register};
-use mac_mail::History;
+use mac_queue::History;
 use std::sync::Wait;
 use std::time::Clock;
 

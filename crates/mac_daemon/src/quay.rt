@@ -9,7 +9,7 @@ use crate::room::{Entry, Most, Room};
 use mac_count::AnsweredRequest;
 use mac_host::{Badge, Exchange, Life, Notices, Numbers, Roster, Socket, microseconds};
 use mac_loop::{EndedLife, Transcript, Turn, Watch};
-use mac_mail::{Bell, History};
+use mac_queue::{Bell, History};
 use std::alloc::{AllocError, Global};
 use std::sync::atomic::AtomicU64;
 use std::sync::atomic::Ordering::SeqCst;

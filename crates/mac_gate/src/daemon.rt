@@ -60,7 +60,11 @@ impl<'a, R: Wait + Clock> OwnDaemon<'a, R> {
     }
 
     /// Tells what it has counted, a line for each number, and these keys.
-    fn tell_status(&self, keys: Option<&KeyTable>, text: &mut Vec<u8>) -> Result<PageTold, AllocError>
+    fn tell_status(
+        &self,
+        keys: Option<&KeyTable>,
+        text: &mut Vec<u8>,
+    ) -> Result<PageTold, AllocError>
         ensures { IfOk result (Adds (TellsStatus self.now.version.now (option_copied keys.entry))
             text.old.items text.new.items) }
     {

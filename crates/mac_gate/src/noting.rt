@@ -6,7 +6,7 @@ ghost use Rattle.mac_gate.specs.Noting.{identifier_of, logged_reason, told_ident
 ghost use Rattle.mac_gate.specs.Noting.{told_of_verify, verdict_word, well_word};
 
 use http::StatusCode;
-use mac_count::{Asked, AnsweredRequest, Told};
+use mac_count::{AnsweredRequest, Asked, Told};
 use mac_host::{Exchange, LoggedReason, copy_identifier_of, copy_told_id, copy_told_identifier};
 use mac_http::{Asks, Noted, Reason};
 use std::alloc::{AllocError, Global};

@@ -5,7 +5,7 @@ use crate::clock::microseconds;
 use crate::exchange::{Exchange, Logged};
 use crate::minted::minted_fields;
 use crate::requested::request_fields;
-use mac_board::{ListNews, ListRefusal, News, KeyFileRefusal};
+use mac_board::{KeyFileRefusal, ListNews, ListRefusal, News};
 use mac_log::{Fields, Key, Kind, Log, NoMemory, start_log};
 use std::alloc::Global;
 use std::fmt::Display;

@@ -2,7 +2,7 @@
 
 use crate::traffic::Traffic;
 use mac_board::{ListNews, Moments, News};
-use mac_count::{Counters, Number, REQUESTS, AnsweredRequest, Snapshot};
+use mac_count::{AnsweredRequest, Counters, Number, REQUESTS, Snapshot};
 use mac_system::SystemMoments;
 use std::alloc::{AllocError, Global};
 use std::sync::Arc;

@@ -90,7 +90,11 @@ impl Standing {
         }
         let looks = self.looks;
         self.looks = false;
-        if looks { Instruction::Look } else { Instruction::Nothing }
+        if looks {
+            Instruction::Look
+        } else {
+            Instruction::Nothing
+        }
     }
 
     /// The daemon is told to end.

@@ -7,7 +7,7 @@ ghost use Rattle.mac_http.specs.Faced.{IsAnswer, IsPlainAnswer};
 ghost use Rattle.mac_http.specs.Happened.{Happens, HappensPlainly};
 ghost use Rattle.mac_http.specs.Turn.{AnswersOnce};
 
-use crate::calling::{PathCall, Called, call_in, respond_to_call};
+use crate::calling::{Called, PathCall, call_in, respond_to_call};
 use crate::footing::Footing;
 use crate::happened::Happened;
 use crate::page::{Monitor, announce_close, page_in, tell_page};

@@ -5,7 +5,7 @@ ghost use Rattle.std.specs.Option.{option_map};
 ghost use Rattle.mac_page.specs.Route.{all_calls, asked_in, file_in, verify_in};
 
 use mac_calls::Call;
-use mac_http::{PathCall, Calls, call_in};
+use mac_http::{Calls, PathCall, call_in};
 
 /// The paths of the files.
 const DOCUMENT: &[u8] = b"/";

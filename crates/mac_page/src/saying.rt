@@ -141,7 +141,8 @@ fn put_outcome(outcome: &CallOutcome, response: &mut Response) -> Result<(), All
 {
     match outcome {
         CallOutcome::NoKey => Ok(()),
-        CallOutcome::Minted { .. } | CallOutcome::Reply(_) | CallOutcome::Refused { .. } => put_json(response),
+        CallOutcome::Minted { .. } | CallOutcome::Reply(_) | CallOutcome::Refused { .. } =>
+            put_json(response),
     }
 }
 

@@ -6,7 +6,7 @@ ghost use Rattle.mac_decide.specs.Viewed.{arrival_of, viewed};
 ghost use Rattle.mac_plain.specs.Tally.{asked_by, asked_as, counts_of, request_of, requests_of};
 ghost use Rattle.mac_plain.specs.Tally.{told_by};
 
-use mac_count::{Asked, REQUESTS, AnsweredRequest, RequestCounts, Told};
+use mac_count::{AnsweredRequest, Asked, REQUESTS, RequestCounts, Told};
 use mac_decide::{ArrivalView, JobView};
 use mac_wire::{Reply, RequestKind, request_kind};
 

@@ -9,9 +9,8 @@ ghost use Rattle.mac_pool.specs.Working.{with_tickets, HasTurned, HasWorked};
 ghost use Rattle.mac_pool.specs.declared.work.TheConstants.{TURN_MAX};
 
 use crate::posting::{give_up, post_all, ring_all};
-use mac_mail::{Delivery, History, Mailbox, Post};
 use mac_order::{Answer, NoMemory, Service};
-use mac_queue::{Claim, Queue, QueuePass, Ticket};
+use mac_queue::{Claim, Delivery, History, Mailbox, Post, Queue, QueuePass, Ticket};
 use std::alloc::Global;
 use std::collections::VecDeque;
 use std::sync::{Arc, Wait};

@@ -2,12 +2,15 @@
 
 ghost use Rattle.std.specs.Prelude.{◌≡◌, length, IfOk, IfErr, OnOk, OnErr};
 ghost use Rattle.std.specs.Arc.{arc_value};
-ghost use Rattle.mac_mail.specs.Taking.{fresh_taking};
+ghost use Rattle.mac_queue.specs.Taking.{fresh_taking};
 ghost use Rattle.mac_queue.specs.Putting.{pass_of, putting_of, with_put};
 
+use crate::bell::AnnouncedWait;
+use crate::fault::PutFault;
+use crate::mailbox::Mailbox;
 use crate::queue::{PUTS_MAX, Queue, QueuePass};
+use crate::taker::Taker;
 use crate::ticket::Ticket;
-use mac_mail::{Mailbox, AnnouncedWait, PutFault, Taker};
 use mac_order::Service;
 use std::alloc::Global;
 use std::marker::Model;

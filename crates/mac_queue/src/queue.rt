@@ -2,16 +2,18 @@
 
 ghost use Rattle.std.specs.Prelude.{◌≡◌, ◌≢◌, ◌+◌, ◌-◌, ◌≤◌, ◌<◌, ◌^◌, [], length, IfErr, IfOk, OnOk, OnErr};
 ghost use Rattle.mac_queue.specs.Balance.{account, entry_of};
-ghost use Rattle.mac_mail.specs.Fault.{IsSoFound};
+ghost use Rattle.mac_queue.specs.Fault.{IsSoFound};
 ghost use Rattle.mac_queue.specs.Claim.{after_claim, IsSoClaimed};
 ghost use Rattle.mac_queue.specs.Pass.{with_put, AreFresh};
 ghost use Rattle.crossbeam_queue.specs.Passes.{view as what, IsPassOf};
 
 use self::account::{Balance, Books, Claims, CutOff, Puts};
+use crate::bell::{AnnouncedWait, Bell};
+use crate::closing::{Closed, Closing, Open};
+use crate::fault::PutFault;
 use crate::ticket::Ticket;
 use crossbeam_queue::protocol::Free;
 use crossbeam_queue::{Pass, RuledArrayQueue};
-use mac_mail::{Bell, Closed, Closing, AnnouncedWait, Open, PutFault};
 use mac_order::{NoMemory, Service};
 use std::alloc::Global;
 use std::marker::Model;

@@ -11,10 +11,8 @@ use crate::outstanding::Outstanding;
 use crate::signals::HalfSignals;
 use mac_board::Outlook;
 use mac_decide::{Job, Macaroons, Rights, Terms, job_of};
-use mac_mail::PutFault;
-use mac_order::Service;
-use mac_queue::Putter;
-use mac_ring::{AdmitFault, Intake};
+use mac_order::{AdmitFault, Intake, Service};
+use mac_queue::{PutFault, Putter};
 use mac_wire::{Arrival, Ending, Source};
 use std::alloc::Global;
 use std::sync::Wait;
@@ -40,7 +38,7 @@ pub struct Inbound {
 }
 
 impl Inbound {
-    ghost use Rattle.mac_ring.specs.Ring.{admitted, IsSameIntake, Knows};
+    ghost use Rattle.mac_order.specs.Ring.{admitted, IsSameIntake, Knows};
     ghost use Rattle.mac_queue.specs.Putting.{with_put};
     ghost use Rattle.mac_serve.specs.Receiving.{CountsRead, IsSameHalf, Receives, ReceivesUnder, TakesUnder, HasRun, Past, GoesOn, Continues, Runs};
     ghost use Rattle.mac_wire.specs.FrameReader.{HasEnded};
@@ -83,7 +81,12 @@ impl Inbound {
     }
 
     /// Admits the job, once there is room for it.
-    fn admit<R: Wait>(&mut self, rt: &R, job: Job, signals: &HalfSignals) -> Result<u64, InboundFault>
+    fn admit<R: Wait>(
+        &mut self,
+        rt: &R,
+        job: Job,
+        signals: &HalfSignals,
+    ) -> Result<u64, InboundFault>
         ensures ring { IsSameIntake self.old.ring self.new.ring }
         ensures putter { self.new.putter ≡ self.old.putter }
         ensures place { IfOk result (λ place. place ≡ length (admitted self.old.ring)) }

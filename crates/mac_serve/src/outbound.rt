@@ -4,10 +4,9 @@ ghost use Rattle.std.specs.Prelude.{◌≡◌, ◌<◌, [], Ok};
 
 use crate::signals::HalfSignals;
 use mac_decide::{Macaroons, laws};
-use mac_mail::{Post, Taker};
-use mac_order::Next;
 use mac_order::laws::equal_jobs_hold_the_same;
-use mac_ring::Outlet;
+use mac_order::{Next, Outlet};
+use mac_queue::{Post, Taker};
 use mac_wire::{GATHERED, Sink, Unsent, Version, append_reply, send_all, whole_frames};
 use std::alloc::Global;
 use std::sync::Wait;
@@ -54,7 +53,7 @@ pub struct Outbound {
 }
 
 impl Outbound {
-    ghost use Rattle.mac_ring.specs.Ring.{received};
+    ghost use Rattle.mac_order.specs.Ring.{received};
     ghost use Rattle.mac_order.specs.Buffer.{fresh_buffer};
     ghost use Rattle.mac_serve.specs.Sending.{Stands, StepsAlone, Releases, Flushes, SendsAll, SendsUnsent, SendsBoth};
 

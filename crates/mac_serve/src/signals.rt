@@ -1,6 +1,6 @@
 //! What the two halves of a connection tell each other while they run.
 
-use mac_mail::{Bell, AnnouncedWait};
+use mac_queue::{AnnouncedWait, Bell};
 use std::sync::Wait;
 use std::sync::atomic::{AtomicBool, AtomicU64, Ordering};
 use std::time::Duration;

@@ -18,7 +18,7 @@ use mac_daemon::{
 };
 use mac_decide::Rights;
 use mac_gate::{Address, DoorFault, ServerFault};
-use mac_host::{Instruction, Host};
+use mac_host::{Host, Instruction};
 use mac_sockets::{Door, Doors, Holdings, PathClaim, PlaceFault};
 use mac_system::handed_listener;
 use std::alloc::{Alloc, AllocError, Global};

@@ -19,7 +19,8 @@ use crate::status::Status;
 use mac_keys::KeyTable;
 use mac_wire::{TokenForm, WriterSink, send_all};
 use mac_words::{
-    Minting, Said, explain, say_attenuate, say_inspect, say_inspect_under, say_mint, say_verify, warnings,
+    Minting, Said, explain, say_attenuate, say_inspect, say_inspect_under, say_mint, say_verify,
+    warnings,
 };
 use std::alloc::{Alloc, Global};
 use std::fs::{File, Files};

@@ -4,9 +4,9 @@
 ghost use Rattle.std.specs.Prelude.{◌≡◌, ◌+◌, ◌-◌, ◌<◌, ◌^◌, [], ◌∷◌, ◌++◌, length};
 ghost use Rattle.mac_queue.specs.Balance.{account, entry_of};
 
+use crate::mailbox::Mailbox;
 use crate::ticket::Ticket;
 use crossbeam_queue::protocol::{Join, Lesson, Outcome, Protocol, Split};
-use mac_mail::Mailbox;
 use mac_order::Service;
 use std::collections::LinkedList;
 
