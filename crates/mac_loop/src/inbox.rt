@@ -1,6 +1,7 @@
 //! What loops share: where each gets clients from, how busy each is, and what is unsent on all.
 
-ghost use Rattle.std.specs.Prelude.{◌≡◌, ◌++◌, ◌∷◌, [], IfErr, IfNone, IfOk, IfSome};
+ghost use Rattle.std.specs.Prelude.{◌≡◌, ◌+◌, ◌++◌, ◌∷◌, [], IfErr, IfNone, IfOk, IfSome, OnOk};
+ghost use Rattle.mac_loop.specs.Made.{count_sides};
 ghost use Rattle.mac_loop.specs.Register.{who};
 
 use crate::backlog::Backlog;
@@ -129,7 +130,9 @@ pub struct Loops<O: Origin> {
 impl<O: Origin> Loops<O> {
     /// No loops yet, whose turns may be answered by several threads, or not, and whose clients have
     /// so many bytes of memory together.
-    pub fn new(alloc: Global, may_share: bool, memory: u64) -> Loops<O> {
+    pub fn new(alloc: Global, may_share: bool, memory: u64) -> Loops<O>
+        ensures { count_sides result ≡ 0 }
+    {
         Loops {
             sides: Vec::new(alloc),
             may_share,
@@ -143,7 +146,9 @@ impl<O: Origin> Loops<O> {
     }
 
     /// One loop more, which gets clients from this inbox.
-    pub fn push(&mut self, inbox: Inbox<Handover<O>>) -> Result<(), AllocError> {
+    pub fn push(&mut self, inbox: Inbox<Handover<O>>) -> Result<(), AllocError>
+        ensures { OnOk result (count_sides self.new ≡ count_sides self.old + 1) }
+    {
         self.sides.push(LoopSide {
             inbox,
             waiting: AtomicUsize::new(0),

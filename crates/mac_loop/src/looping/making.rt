@@ -2,6 +2,7 @@
 //! its proof costs.
 
 ghost use Rattle.std.specs.Prelude.{◌≡◌, ◌<◌, IfOk, OnOk, length};
+ghost use Rattle.mac_loop.specs.Made.{AreInOrder, count_sides};
 ghost use Rattle.mac_loop.specs.Register.{IsBegun, StandsForMore, parts as parts_of};
 
 use crate::backlog::Backlog;
@@ -27,6 +28,8 @@ pub fn make_loops<O: Origin, R: Net + Wait>(
 ) -> Result<(Arc<Loops<O>, Global>, Vec<Box<Loop<O>>>), WaitFault>
     requires { parts.now.terms.count < parts_of register.old }
     ensures count { IfOk result (λ made. length made.1.items ≡ parts.now.terms.count) }
+    ensures sides { IfOk result (λ made. count_sides made.0.value ≡ parts.now.terms.count) }
+    ensures numbers { IfOk result (λ made. AreInOrder 0 made.1.items) }
     ensures left { OnOk result (StandsForMore register.new parts.now.terms.count register.old) }
 {
     let terms = parts.terms;
@@ -50,6 +53,7 @@ fn make_loop<O: Origin, R: Net + Wait>(
     register: Register<O>,
 ) -> Result<(Box<Loop<O>>, Inbox<Handover<O>>), WaitFault>
     requires { IsBegun register }
+    ensures { IfOk result (λ made. made.0.value.number ≡ number) }
 {
     let LoopParts {
         terms,
