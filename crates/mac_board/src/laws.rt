@@ -48,8 +48,8 @@ pub fn what_is_taken_has_rested()
 
 /// Nothing comes of a file that changes from look to look, or while it is looked at.
 pub fn what_never_rests_is_left_alone()
-    ensures { (was : Watcher) (looks : List (ℕ × Sight)) (found : List KeyFileFinding) (now : Watcher)
-        → Goes was looks found now → NeverRests was.last looks → AreIdle found }
+    ensures { (was : Watcher) (looks : List (ℕ × Sight)) (found : List KeyFileFinding)
+        (now : Watcher) → Goes was looks found now → NeverRests was.last looks → AreIdle found }
 {}
 
 /// Of a file that stays in one state one thing is told, or one table taken, and nothing after it.

@@ -316,8 +316,8 @@ fn reply_at(replies: &[Reply], index: usize) -> Option<&Reply>
 fn give<P: Port>(one: &[RoundRequest], reply: Option<&Reply>, clients: &mut [Client<P>])
     requires reply { IfSome reply (λ r. IsReply r.now) }
     requires one { length one.now ≡ 1 }
-    ensures { (current : PlainCurrent) (arena : List ℕ) (request : RoundRequest) → one.now ≡ request ∷ []
-        → IfSome reply.entry (λ r. r.now
+    ensures { (current : PlainCurrent) (arena : List ℕ) (request : RoundRequest)
+        → one.now ≡ request ∷ [] → IfSome reply.entry (λ r. r.now
         ≡ reply_to_job (job_at current arena request (slice_get clients.old request.owner)))
         → AreAnswered P.tells P.taken P.written current
         (λ k. asked_of k arena one.now) clients.old clients.new }
