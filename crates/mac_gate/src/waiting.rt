@@ -2,7 +2,7 @@
 
 ghost use Rattle.std.specs.Prelude.{◌≡◌, ◌≢◌, ℕ, IfOk, false, true};
 ghost use Rattle.mac_gate.specs.Answered.{HasTurn, known_to};
-ghost use Rattle.mac_gate.specs.Going.{KeepTheirs, StayInPlace, TakesIn, past_at, past_of};
+ghost use Rattle.mac_gate.specs.Going.{KeepTheirs, StayInPlace, TakesIn, count_there, past_at, past_of};
 ghost use Rattle.mac_slots.specs.Slots.{Lent, at, no_slots};
 
 mod letting_go;
@@ -76,7 +76,9 @@ impl Waiting {
     }
 
     /// How many there are.
-    pub fn count(&self) -> usize {
+    pub fn count(&self) -> usize
+        ensures { result ≡ count_there self.now.connections.slots }
+    {
         self.connections.slots.count()
     }
 
