@@ -69,6 +69,7 @@ from check import (
     starting,
     statuses,
     type_names,
+    untried,
     unused,
     versions,
     words,
@@ -177,6 +178,7 @@ OF_TEXTS = {
     "lint of Go": linting.go_faults,
     "covering": lambda: covering.faults([name for name, _ in parts()]),
     "wrong bodies apply": wrong_bodies.faults,
+    "tried contracts": untried.faults,
     "wrong runs": wrong_runs.faults,
 }
 

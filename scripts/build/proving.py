@@ -12,6 +12,10 @@ from common import TOP, crates
 
 # The file in out/ that tells what a crate's proof rested on.
 SEEN = "seen"
+# The file in out/ that names the functions of a crate that were proved, a line for each.
+PROVED = "proved"
+# What the toolchain tells of a function that is proved.
+FUNCTION = re.compile(r"^fn (\S+): proved(?:, may wait)?$", re.M)
 # What the toolchain tells of a crate that it will refuse, long before it has tried all of it.
 REFUSED = re.compile(r"so far: .*: error: ")
 # What of a library no other crate sees: the code of its functions, and the answers of their proofs.
@@ -76,6 +80,17 @@ def is_built(name):
     return built_of(name) in records(name)[1:]
 
 
+def functions_in(said):
+    """The functions that are proved, by what the toolchain said."""
+    return FUNCTION.findall(said)
+
+
+def proved_functions(name):
+    """The functions of a crate that were proved as it is now; nothing where it wasn't."""
+    kept = TOP / "crates" / name / "out" / PROVED
+    return kept.read_text().split("\n") if is_proved(name) and kept.exists() else []
+
+
 def told(what, begin):
     print(f"{what}: {(time.monotonic() - begin) / 60:.1f} minutes", flush=True)
 
@@ -101,7 +116,9 @@ def prove(name, jobs):
             room.bring_back(rooms.INCREMENTAL)
             stop(name, status, said)
         room.bring_back(*rooms.KEPT)
-        (TOP / "crates" / name / "out" / SEEN).write_text(f"{rests_on} {built_of(name)}\n")
+        out = TOP / "crates" / name / "out"
+        (out / PROVED).write_text("\n".join(functions_in(said)))
+        (out / SEEN).write_text(f"{rests_on} {built_of(name)}\n")
     told(f"proved {name}", begin)
 
 

@@ -40,12 +40,17 @@ UNBUILT = [
     Command(["make", "soak"], "make build-runs"),
     Command(["make", "taken"], "make test"),
     Command(["make"], "make demo", fails=False),
+    Command(["make", "pages"], "pages are written", fails=False),
+    Command(["scripts/measure/proofs.py"], "no crate has kept proofs", fails=False),
     *(Command([f"scripts/{name}.py"]) for name in ["measure/idle", "measure/http_load", "measure/allocations", "faults/moving",
                                                    "check/sessions", "check/key_lines", "check/revoking"]),
 ]
 # Those that prove, where the toolchain isn't there.
-UNPROVED = [Command(["make", name], "`rt`") for name in ["build", "build-runs", "test", "check", "try", "fmt", "wrong-bodies", "wrong-runs", "demo",
-                                                         "vectors", "reproduce"]]
+UNPROVED = [
+    *(Command(["make", name], "`rt`") for name in ["build", "build-runs", "test", "check", "try", "fmt", "wrong-bodies", "wrong-runs",
+                                                   "demo", "vectors", "reproduce"]),
+    *(Command([f"scripts/{name}.py"], "`rt`") for name in ["measure/edits", "vectors/wrong_readers"]),
+]
 
 
 class Clone:

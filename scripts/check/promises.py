@@ -15,7 +15,7 @@ import sys
 sys.path.insert(0, str(pathlib.Path(__file__).resolve().parents[1]))
 from common import TOP
 from wrong_bodies.bodies import BadEdit, Source, read_body
-from wrong_bodies.kept import recorded
+from wrong_bodies.kept import is_as_tried, recorded
 
 WRONG = "Wrong bodies refused"
 # What stands behind a function's name in that column, and what parts one function from the next.
@@ -157,19 +157,19 @@ def tried_part(crates):
     """What came of wrong bodies where `make wrong-bodies` was run and recorded."""
     tried = recorded(TOP)
     left = [f"`{it.name}`" for it in crates if it.all and it.name not in tried]
-    others = [f"`{it.name}`" for it in crates if it.name in tried and len(it.all) != sum(map(int, tried[it.name][1:]))]
+    others = [f"`{it.name}`" for it in crates if it.name in tried and not is_as_tried(TOP, it.name, tried[it.name])]
     rows = [
         "| Crate | Tree | Tried | At a clause | By name alone | Not covered | Let through | Not compiling |",
         "|---|---|---|---|---|---|---|---|",
     ]
     sums = [0] * 6
     for crate in (it.name for it in crates if it.name in tried):
-        commit, *counts = tried[crate]
+        commit, _, *counts = tried[crate]
         counts = [sum(map(int, counts)), *map(int, counts)]
         sums = [a + b for a, b in zip(sums, counts)]
         rows.append(f"| `{crate}` | {commit} | {' | '.join(map(str, counts))} |")
     rows.append(f"| all of these | | {' | '.join(map(str, sums))} |")
-    return [*rows, *named_below("Not tried to the end yet", left), *named_below("Bodies came or went since in", others)]
+    return [*rows, *named_below("Not tried to the end yet", left), *named_below("Changed since, in their texts or their wrong bodies", others)]
 
 
 def named_below(what, names):

@@ -7,8 +7,8 @@
    is an event that is missed: the system tells a loop once that more has come, and a short count is how the loop learns
    that it has all. An eventfd, which wakes a loop, is left alone: it waits for nobody, and so is never broken off.
 
-   The file that WATCH names is shared with who watches the program: four numbers of eight bytes, how many calls were
-   broken off, cut short and held up, and how many of each of those were the signals'. */
+   The file that WATCH names is shared with who watches the program: numbers of eight bytes, how many calls were
+   broken off, cut short and held up, how many of these were the signals', and of each call how many were broken off. */
 #define _GNU_SOURCE
 #include <dlfcn.h>
 #include <errno.h>
@@ -27,10 +27,11 @@
 
 enum kind { SIGNALS, PLAIN, STREAM, SOCKET, OTHER, KINDS };
 enum hap { STRAIGHT, BROKEN_OFF, CUT_SHORT, HELD_UP };
+enum call { READ, WRITE, OPEN, LOCK, ACCEPT, WAIT, SEND, CALLS };
 
 /* What is told to who watches. */
 struct told {
-    long broken_off, cut_short, held_up, of_signals;
+    long broken_off, cut_short, held_up, of_signals, of_call[CALLS];
 };
 
 static struct told untold;
@@ -94,6 +95,14 @@ static enum hap next_of(enum kind kind) {
     return STRAIGHT;
 }
 
+/* The same, and a call that is broken off is counted as what it is. */
+static enum hap met_by(enum call call, enum kind kind) {
+    enum hap hap = next_of(kind);
+
+    if (hap == BROKEN_OFF) add(&told->of_call[call]);
+    return hap;
+}
+
 static enum kind kind_of(int file) {
     struct stat found;
 
@@ -113,13 +122,13 @@ static size_t part_of(size_t size) { return size > 64 ? 33 : size > 1 ? size - s
 
 ssize_t read(int file, void *bytes, size_t size) {
     NEXT(ssize_t, read, (int, void *, size_t));
-    enum hap hap = next_of(kind_of(file));
+    enum hap hap = met_by(READ, kind_of(file));
     return hap == BROKEN_OFF ? -1 : next(file, bytes, hap == CUT_SHORT ? part_of(size) : size);
 }
 
 ssize_t write(int file, const void *bytes, size_t size) {
     NEXT(ssize_t, write, (int, const void *, size_t));
-    enum hap hap = next_of(kind_of(file));
+    enum hap hap = met_by(WRITE, kind_of(file));
     return hap == BROKEN_OFF ? -1 : next(file, bytes, hap == CUT_SHORT ? part_of(size) : size);
 }
 
@@ -129,34 +138,34 @@ int open(const char *path, int how, ...) {
     va_start(rest, how);
     int mode = how & O_CREAT ? va_arg(rest, int) : 0;
     va_end(rest);
-    return next_of(is_flaky ? PLAIN : OTHER) == BROKEN_OFF ? -1 : next(path, how, mode);
+    return met_by(OPEN, is_flaky ? PLAIN : OTHER) == BROKEN_OFF ? -1 : next(path, how, mode);
 }
 
 int flock(int file, int how) {
     NEXT(int, flock, (int, int));
-    return next_of(kind_of(file)) == BROKEN_OFF ? -1 : next(file, how);
+    return met_by(LOCK, kind_of(file)) == BROKEN_OFF ? -1 : next(file, how);
 }
 
-#define OF_SOCKET(result, name, parameters, passed) \
-    result name parameters {                        \
-        NEXT(result, name, parameters);             \
-        return next_of(SOCKET) == BROKEN_OFF ? -1 : next passed; \
+#define OF_SOCKET(call, result, name, parameters, passed) \
+    result name parameters {                              \
+        NEXT(result, name, parameters);                   \
+        return met_by(call, SOCKET) == BROKEN_OFF ? -1 : next passed; \
     }
 
 ssize_t recv(int file, void *bytes, size_t size, int how) {
     NEXT(ssize_t, recv, (int, void *, size_t, int));
-    enum hap hap = next_of(STREAM);
+    enum hap hap = met_by(READ, STREAM);
     return hap == BROKEN_OFF ? -1 : next(file, bytes, hap == CUT_SHORT ? part_of(size) : size, how);
 }
 
 ssize_t send(int file, const void *bytes, size_t size, int how) {
     NEXT(ssize_t, send, (int, const void *, size_t, int));
-    enum hap hap = next_of(STREAM);
+    enum hap hap = met_by(WRITE, STREAM);
     return hap == BROKEN_OFF ? -1 : next(file, bytes, hap == CUT_SHORT ? part_of(size) : size, how);
 }
 
-OF_SOCKET(ssize_t, sendto,
+OF_SOCKET(SEND, ssize_t, sendto,
           (int file, const void *bytes, size_t size, int how, __CONST_SOCKADDR_ARG to, socklen_t length),
           (file, bytes, size, how, to, length))
-OF_SOCKET(int, accept4, (int file, __SOCKADDR_ARG from, socklen_t *size, int how), (file, from, size, how))
-OF_SOCKET(int, epoll_wait, (int poll, struct epoll_event *events, int most, int patience), (poll, events, most, patience))
+OF_SOCKET(ACCEPT, int, accept4, (int file, __SOCKADDR_ARG from, socklen_t *size, int how), (file, from, size, how))
+OF_SOCKET(WAIT, int, epoll_wait, (int poll, struct epoll_event *events, int most, int patience), (poll, events, most, patience))

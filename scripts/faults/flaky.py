@@ -28,6 +28,8 @@ DRAIN, BEYOND = 5, 10
 ASKED = (frame(MINT) + frame(b"")) * BURST
 DUE = (frame(b"\x01" + TOKEN) + NO_REQUEST) * BURST
 SIGNALS_FAULT = "signals can't be read: "
+# Which calls are counted when they are broken off, as flaky.c numbers them.
+CALLS = ("read", "write", "open", "lock", "accept", "wait")
 
 
 class Flaky(Watch):
@@ -41,6 +43,7 @@ class Flaky(Watch):
     cut_short = property(lambda self: self.get(1))
     held_up = property(lambda self: self.get(2))
     of_signals = property(lambda self: self.get(3))
+    of_calls = property(lambda self: {name: self.get(4 + number) for number, name in enumerate(CALLS)})
 
 
 class Talking(threading.Thread):
@@ -176,6 +179,7 @@ def row_of(seed, library, seconds):
         came = {"broken off": flaky.broken_off, "cut short": flaky.cut_short, "held up": flaky.held_up}
         seen.append(("calls of each kind", all(came.values()), True))
         seen.append(("reads of signals", flaky.of_signals >= 6, True))
+        seen.append(("calls never broken off", [name for name, times in flaky.of_calls.items() if not times], []))
     what = f"listen and serve, calls broken off, cut short and held up, sequence {seed}"
     found = [f"{what}: {name}: {got!r} where {due!r} is due" for name, got, due in seen if got != due]
     return Row(what, sum(came.values()), collections.Counter(came)), found

@@ -18,6 +18,8 @@ HERE = pathlib.Path(__file__).resolve().parent
 WATCHER, FLAKY = HERE / "watch.c", HERE / "flaky.c"
 # How long a run may take, in seconds: a connection whose second thread is refused waits ten for it.
 PATIENCE = 60
+# How many bytes are shared with a watched program, for all its numbers.
+SHARED = 128
 LANES = os.cpu_count() or 1
 
 Ended = collections.namedtuple("Ended", "status output error")
@@ -42,9 +44,9 @@ class Watch:
 
     def __init__(self, call, first=0, every=0, **variables):
         with tempfile.NamedTemporaryFile(delete=False) as file:
-            file.write(bytes(40))
+            file.write(bytes(SHARED))
             file.flush()
-            self.numbers = mmap.mmap(file.fileno(), 40)
+            self.numbers = mmap.mmap(file.fileno(), SHARED)
         self.path = file.name
         self.set(1, first)
         self.set(2, every)

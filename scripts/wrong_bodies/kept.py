@@ -3,15 +3,21 @@ import hashlib
 import json
 import subprocess
 
+# Where a crate's wrong bodies are, those that the gate tries first.
+EDITS = ["must-fail", "wrong-bodies"]
 # Beside a crate's proofs.
 KEPT = "out/wrong-bodies.json"
 # Where the counts of all crates are written.
 RECORD = "docs/wrong-bodies.txt"
 HEAD = """\
 # What came of the wrong bodies of each crate, by `scripts/wrong_bodies/wrong_bodies.py --record`:
-# the crate, the commit whose tree was tried, and how many were refused at a clause, by name alone,
-# weren't covered, were let through, and didn't compile.
+# the crate, the commit whose tree was tried, a digest of what the crate was then, with its wrong
+# bodies, and how many of them were refused at a clause, by name alone, weren't covered, were let
+# through, and didn't compile. A dash stands for a digest that wasn't made.
 """
+# How many digits of a digest are written.
+DIGITS = 12
+NO_DIGEST = "-"
 
 
 class Kept:
@@ -58,12 +64,33 @@ def digest(crate):
     return hashed(*parts).encode()
 
 
+def tried_as(crate):
+    """A digest of the crate as wrong bodies are tried on it: its texts, and the bodies."""
+    edits = sorted(it for part in EDITS for it in (crate / part).glob("*.edit"))
+    return hashed(digest(crate), *(it.read_bytes() for it in edits))[:DIGITS]
+
+
+def is_as_tried(top, crate, row):
+    """Whether the crate is still what its line in the table was written of; of an old line nobody knows."""
+    return row[1] in (NO_DIGEST, tried_as(top / "crates" / crate))
+
+
+def told_by_git(top, *words):
+    return subprocess.run(["git", "-C", str(top), *words], capture_output=True, text=True).stdout.strip()
+
+
+def check_commit(top):
+    """Ends it where a crate isn't what the commit has: a line of the table names that."""
+    changed = told_by_git(top, "status", "--porcelain", "--", "crates", "crates.txt")
+    if changed:
+        raise SystemExit(f"commit the crates first: a record names the commit that was tried\n{changed}")
+
+
 def record(top, crate, counts):
     """Writes a crate's counts into the table of all, with the commit whose tree was tried."""
     rows = recorded(top)
-    command = ["git", "-C", str(top), "rev-parse", "--short=7", "HEAD"]
-    commit = subprocess.run(command, capture_output=True, text=True).stdout.strip()
-    rows[crate] = [commit or "unknown", *map(str, counts)]
+    commit = told_by_git(top, "rev-parse", "--short=7", "HEAD")
+    rows[crate] = [commit or "unknown", tried_as(top / "crates" / crate), *map(str, counts)]
     lines = (" ".join([name, *row]) for name, row in sorted(rows.items()))
     (top / RECORD).write_text(HEAD + "\n".join(lines) + "\n")
 

@@ -8,7 +8,7 @@ in that file; further pairs apply to what the earlier ones made.
 Many are tried in one check of a copy of the crate, at most one for each function. That a caller
 fails because its callee does is no refusal of the caller's body. An edit of anything but functions'
 bodies is tried alone; those that a check of several didn't see refused are tried again, at last
-each alone. The tree itself is checked only as it stands, so that its out/ is fresh.
+each alone. A crate that `make build` hasn't proved as it is now is checked first.
 
 Two kinds of refusal say nothing of a contract and are counted apart, as skipped: *by name alone*,
 where all that is wrong is that a proof names what the body took away, and *not covered*, where the
@@ -37,14 +37,14 @@ from dataclasses import dataclass
 from pathlib import Path
 
 sys.path.insert(0, str(Path(__file__).resolve().parents[1]))
+from build import proving
 from common import TOP, programs
 from wrong_bodies.bodies import BadEdit, Source, batches_of, read_body
-from wrong_bodies.kept import Kept, record
+from wrong_bodies.kept import EDITS, Kept, check_commit, record
 
 
 # A copy of the crate, and what a check says of it.
 
-EDITS = ["must-fail", "wrong-bodies"]
 TEXTS = ["src", "specs", "proofs"]
 
 
@@ -268,6 +268,14 @@ def bodies_of(crate, source):
     return bodies, bad
 
 
+def proved_in(crate):
+    """The functions of a crate that are proved as it stands: by what `make build` kept, else by a check of the whole."""
+    if kept := proving.proved_functions(crate):
+        return kept
+    said = rt_check(TOP / "crates" / crate)
+    return proving.functions_in(said) if "\nlogic=proved" in said else []
+
+
 def try_crate(crate, anew=False):
     """A verdict on each of the crate's wrong bodies: those that are kept, and those of new checks."""
     kept = Kept(TOP, crate, stands_on(crate), edits_of(crate))
@@ -276,10 +284,9 @@ def try_crate(crate, anew=False):
         found += [Verdict(it, Kind[kind], said) for it, (kind, said) in kept.valid().items()]
     if len(found) == len(edits_of(crate)):
         return found
-    said = rt_check(TOP / "crates" / crate)
-    if "\nlogic=proved" not in said:
+    proved = proved_in(crate)
+    if not proved:
         return [*found, Verdict("as it stands", Kind.NOT_PROVED, "its own check fails")]
-    proved = re.findall(rf"^fn (\S+): {PROVED}$", said, re.M)
     settled = {it.body for it in found}
     with tempfile.TemporaryDirectory(prefix="wrong-bodies-") as room:
         copy = Copy(crate, Path(room), proved)
@@ -354,6 +361,8 @@ def main():
     crates = given.crates or crates_with_edits()
     if not given.dry:
         programs.stop_without_toolchain()
+    if given.record:
+        check_commit(TOP)
     sys.exit(0 if (dry_run(crates) if given.dry else try_all(crates, given)) else 1)
 
 
