@@ -180,14 +180,18 @@ def long_path(folder):
 
 
 def journal(folder):
-    """Where systemd's journal reads, each line has its priority in front."""
-    log = Log(folder)
-    with listening(log, env={**os.environ, "JOURNAL_STREAM": "8:1"}) as (path, _):
-        with connected(path) as stream:
-            stream.sendall(bytes(3))
-        log.first("connection_fault")
-    fronts = {line.split()[2]: line[:3] for line in log.text().splitlines()}
-    yield "priorities", (fronts["start"], fronts["connection_fault"]), ("<6>", "<4>")
+    """Where standard error is the stream to systemd's journal, each line has its priority in front, and none where it
+    was sent elsewhere."""
+    for what, moved, due in (("priorities", 0, ("<6>", "<4>")), ("none of another stream", 1, ("20", "20"))):
+        log = Log(folder)
+        found = os.fstat(log.file.fileno())
+        stream = f"{found.st_dev}:{found.st_ino + moved}"
+        with listening(log, env={**os.environ, "JOURNAL_STREAM": stream}) as (path, _):
+            with connected(path) as stream:
+                stream.sendall(bytes(3))
+            log.first("connection_fault")
+        fronts = {line.split()[2]: line[: len(due[0])] for line in log.text().splitlines()}
+        yield what, (fronts["start"], fronts["connection_fault"]), due
 
 
 def naming(name):

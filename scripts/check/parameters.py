@@ -15,16 +15,12 @@ OF_LIBRARY = {"mac_plain": 5}
 # What passes that, and why.
 SERVER = "what a server is started or run with isn't one type yet"
 MEANT = {
-    "mac_loop::looping::sharing::Loop::give": SERVER,
-    "mac_loop::looping::sharing::Loop::move_to": SERVER,
     "mac_serve::connection::serve": SERVER,
     "mac_serve::connection::run_both": SERVER,
     "mac_serve::inbound::Inbound::take_arrivals": SERVER,
     "mac_serve::inbound::Inbound::take_all": SERVER,
     "mac_serve::inbound::Inbound::read_to_end": SERVER,
     "mac_serve::inbound::Inbound::run": SERVER,
-    "mac_words::saying::say_mint": "the words of a mint, one by one, and the table",
-    "mac_pool::work::turn_from": SERVER,
 }
 
 

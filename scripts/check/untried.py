@@ -15,24 +15,20 @@ from wrong_bodies.bodies import BadEdit, Source, read_body
 from wrong_bodies.functions import HEADER
 from wrong_bodies.wrong_bodies import edits_of
 
-# What has none, and why. Where nothing else is said each body that compiles does what the contract says.
-LATER = "one was refused, and stands aside until it is known which row of vectors/ finds it"
+# What has none, and why: each body that compiles does what the contract says.
 ONE = "there is one value of its type at hand, and no contract says of another that it isn't this one"
 MEANT = {
     "mac_board::outlook::TimedTables::new": ONE,
     "mac_commands::list_store::find_first_list": "its contract says that the list is that of some text, as each list is",
     "mac_http::face::Face::into_keys": ONE,
-    "mac_mail::history::History::new": ONE,
-    "mac_mail::mailbox::Mailbox::close": ONE,
-    "mac_mail::taker::Taker::close": "closing changes nothing that contracts see",
+    "mac_loop::inbox::Loops::new": ONE,
+    "mac_queue::history::History::new": ONE,
+    "mac_queue::mailbox::Mailbox::close": ONE,
+    "mac_queue::taker::Taker::close": "closing changes nothing that contracts see",
     "mac_order::answer::Answer::into_parts": ONE,
     "mac_queue::desk::Desk::into_pass": ONE,
     "mac_sockets::door::Door::gift": ONE,
     "mac_sockets::doors::Doors::new": ONE,
-    "mac_token::fault::TokenFault::code": LATER,
-    "mac_token::token::Token::caveat_list": LATER,
-    "mac_token::token::Token::new": LATER,
-    "mac_token::view::TokenView::walk": LATER,
 }
 EXPORT = re.compile(r"^pub use [\w:]+::(?:\{([^}]*)\}|(\w+));", re.M)
 

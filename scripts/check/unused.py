@@ -4,7 +4,8 @@ names that a file of proofs or definitions brings in and doesn't use.
 
 A call is looked for in the crate itself and in the product crates that crates.txt has above it: all
 but those that try or time the others. It is found by its name and form alone, `.name(`, `Type::name`
-or `name`, so a function may hide behind another one's name; what is told is called by nobody.
+or `name`, so a method may hide behind another one's name; what is told is called by nobody. Of a
+function that isn't a method another crate has to say whose it is, by `use CRATE::` or its path.
 """
 import collections
 import pathlib
@@ -25,7 +26,7 @@ MEANT = {
     "mac_wire::mem_sink::MemSink::new": MEMORY,
     "mac_wire::mem_source::MemSource::new": MEMORY,
     "mac_wire::reply::reply_bytes": LIBRARY,
-    "mac_ring::intake::Intake::free_slips": "tells whether the next admit succeeds, as its contract says",
+    "mac_order::intake::Intake::free_slips": "tells whether the next admit succeeds, as its contract says",
     "mac_serve::caller::Caller::new": WHOLE,
     "mac_serve::fault::ServeFault::code": WHOLE,
     "mac_serve::whole::serve_all": WHOLE,
@@ -59,6 +60,8 @@ class Declared:
         self.path, self.name = function.path, function.path.split("::")[-1]
         self.file, self.first, self.end = function.file, function.first, function.end
         self.form = re.compile(form_of(self.name, owner, is_method))
+        crate = function.path.split("::")[0]
+        self.taken = re.compile("" if owner else rf"\b{crate}::[^;]*\b{self.name}\b")
 
 
 def form_of(name, owner, is_method):
@@ -106,13 +109,14 @@ def uncalled():
     below = {it: rest for it, rest in crates.uses().items() if not TRIALS.match(it)}
     codes = {crate: codes_of(crate) for crate in below}
     whole = {crate: "\n".join("\n".join(it) for it in codes[crate].values()) for crate in below}
+    texts = {crate: "\n".join(it.read_text() for it in sources(crate)) for crate in below}
     above = {crate: [it for it in below if crate in reached(it, below)] for crate in below}
     for crate in below:
         for it in declared_in(crate):
             own = "\n".join(codes[crate][it.file][it.first : it.end + 1])
             if times_in(it, whole[crate]) > times_in(it, own):
                 continue
-            if not any(times_in(it, whole[name]) for name in above[crate]):
+            if not any(times_in(it, whole[name]) and it.taken.search(texts[name]) for name in above[crate]):
                 yield it
 
 
@@ -121,10 +125,12 @@ def times_in(function, code):
     return len(function.form.findall(code)) if function.name in code else 0
 
 
+def sources(crate):
+    return sorted((TOP / "crates" / crate / "src").rglob("*.rt"))
+
+
 def codes_of(crate):
-    folder = TOP / "crates" / crate
-    files = sorted((folder / "src").rglob("*.rt"))
-    return {str(it.relative_to(folder)): bare(it.read_text()) for it in files}
+    return {str(it.relative_to(TOP / "crates" / crate)): bare(it.read_text()) for it in sources(crate)}
 
 
 def reached(crate, below):

@@ -62,6 +62,13 @@ def words_of(pid):
     return words, fields, folder
 
 
+def goes_on(folder, words):
+    """Whether a check goes on from what was proved before: it names a folder that has some of that."""
+    named = words[words.index("--incremental") + 1] if "--incremental" in words[:-1] else None
+    kept = named and pathlib.Path(folder, named)
+    return bool(kept and kept.is_dir() and any(kept.iterdir()))
+
+
 def process(pid):
     """What a process does, or None where it has ended."""
     found = words_of(pid)
@@ -72,7 +79,7 @@ def process(pid):
     what = "edits" if "/rt-edit-" in folder else "tests" if "--test" in words else "proof"
     is_build = "--crate-checked" in words or any(word.startswith("--cpu") for word in words)
     own, ended = (sum(map(int, fields[at : at + 2])) / TICKS for at in (11, 13))
-    is_anew = what == "edits" or "--incremental" not in words
+    is_anew = what == "edits" or not goes_on(folder, words)
     return Process(int(fields[1]), crate, "building" if is_build else what, is_anew, own, ended)
 
 
@@ -106,6 +113,7 @@ class Watch:
 
     def __init__(self):
         self.spans, self.seen, self.samples = {}, collections.defaultdict(dict), []
+        self.is_anew = {}
 
     def look(self, top, now):
         seen = all_below(top)
@@ -113,6 +121,8 @@ class Watch:
             key = it.crate, it.what
             first, _ = self.spans.get(key, (now, now))
             self.spans[key] = first, now
+            # What it begins from is told by the first look at the crate: later it has proved something itself.
+            self.is_anew.setdefault(key, it.is_anew)
             self.seen[key][pid] = it
         self.samples.append(len({(it.crate, it.what) for it in seen.values()}))
 
@@ -123,11 +133,7 @@ class Watch:
 
     def costs(self):
         """What the gate's work on each crate took that was proved from nothing."""
-        anew = {
-            key: processor_seconds(seen) / 60
-            for key, seen in self.seen.items()
-            if all(it.is_anew for it in seen.values())
-        }
+        anew = {key: processor_seconds(seen) / 60 for key, seen in self.seen.items() if self.is_anew[key]}
         for crate in (crate for crate, what in anew if what == "proof"):
             edits = anew.get((crate, "edits"))
             yield crate, costs.Cost("", crates.lines(crate), anew[crate, "proof"], edits, costs.edits_of(crate))

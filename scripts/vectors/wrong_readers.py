@@ -69,7 +69,9 @@ REASONS = {
     "mac_token/read_bare_decodes_again": BY_CALLS,
     "mac_token/read_bare_json_refused": BY_CALLS,
     "mac_token/walk_gives_vid": "it asks for a token with a vid, and such are refused before",
+    "mac_token/want_of_memory_has_a_number": "no row is answered where memory is refused",
     "mac_token/write_length_of_packets_for_their_text": "the limit is told later, once memory was taken",
+    "mac_token/write_limit_told_as_memory": "no row writes a token that is too long in another form: requests make drafts",
 }
 
 

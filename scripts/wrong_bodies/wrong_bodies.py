@@ -228,20 +228,20 @@ def judged(body, report, source):
 
 
 def tried(batch, copy):
-    """A verdict on each body of the batch; those that aren't refused among others are tried again.
+    """Verdicts on the bodies of the batch, some at a time; those that aren't refused among others are tried again.
 
     A function that calls one whose body is wrong too is not always asked for its own goals.
     """
     report = copy.check(batch)
     if len(batch) > 1 and not report.has_ended:
-        return [it for part in parted(batch, report) for it in tried(part, copy)]
+        for part in parted(batch, report):
+            yield from tried(part, copy)
+        return
     found = [judged(body, report, copy.source) for body in batch]
-    again = [body for body, verdict in zip(batch, found) if verdict.is_failure()]
-    if not again or len(batch) == 1:
-        return found
-    parts = [again] if len(again) < len(batch) else [[it] for it in again]
-    settled = [it for it in found if not it.is_failure()]
-    return settled + [it for part in parts for it in tried(part, copy)]
+    again = [body for body, verdict in zip(batch, found) if verdict.is_failure()] if len(batch) > 1 else []
+    yield found if len(batch) == 1 else [it for it in found if not it.is_failure()]
+    for part in [again] * bool(again) if len(again) < len(batch) else [[it] for it in again]:
+        yield from tried(part, copy)
 
 
 def parted(batch, report):
@@ -291,9 +291,9 @@ def try_crate(crate, anew=False):
     with tempfile.TemporaryDirectory(prefix="wrong-bodies-") as room:
         copy = Copy(crate, Path(room), proved)
         for batch in batches_of([it for it in bodies if it.name not in settled]):
-            came = tried(batch, copy)
-            kept.keep({it.body: (it.kind.name, it.said) for it in came})
-            found += came
+            for came in tried(batch, copy):
+                kept.keep({it.body: (it.kind.name, it.said) for it in came})
+                found += came
     return found
 
 

@@ -14,9 +14,9 @@ use Rattle.mac_board.specs.declared.sight.FileState.TheVariants as state
 use Rattle.mac_board.specs.declared.sight.ReadFault.TheVariants as read
 use Rattle.mac_board.specs.declared.sight.Sight.{Sight}
 use Rattle.mac_board.specs.declared.sight.Sight.TheVariants.{Glance, Read}
-use Rattle.mac_board.specs.declared.watcher.Finding.{Finding}
-use Rattle.mac_board.specs.declared.watcher.Finding.TheVariants as finding
-use Rattle.mac_board.specs.declared.watcher.Refusal.TheVariants as refusal
+use Rattle.mac_board.specs.declared.watcher.KeyFileFinding.{KeyFileFinding}
+use Rattle.mac_board.specs.declared.watcher.KeyFileFinding.TheVariants as finding
+use Rattle.mac_board.specs.declared.watcher.KeyFileRefusal.TheVariants as refusal
 use Rattle.mac_board.specs.declared.watcher.Watcher.{Watcher}
 
 -- ---- what is taken
@@ -52,35 +52,35 @@ taken-rested was names sight table now sees =
 
 -- ---- what never rests
 
-pub never-rests : (was : Watcher) (looks : List (ℕ × Sight)) (found : List Finding) (now : Watcher) → Goes was looks found now → NeverRests was.last looks → AreIdle found
-never-rests was [] [] now goes never = All-nil (λ (f : Finding). f ≡ finding.Nothing)
+pub never-rests : (was : Watcher) (looks : List (ℕ × Sight)) (found : List KeyFileFinding) (now : Watcher) → Goes was looks found now → NeverRests was.last looks → AreIdle found
+never-rests was [] [] now goes never = All-nil (λ (f : KeyFileFinding). f ≡ finding.Nothing)
 never-rests was [] (f ∷ fs) now goes never = absurd goes
 never-rests was (look ∷ looks) [] now goes never = absurd goes
 never-rests was (look ∷ looks) (f ∷ fs) now (next, sees, goes) never =
-    All-cons (λ (g : Finding). g ≡ finding.Nothing) f fs
+    All-cons (λ (g : KeyFileFinding). g ≡ finding.Nothing) f fs
     (⊎_elim (λ due. absurd (never.0 (due.0.rests, due.0.stays))) (λ idle. idle.1) sees.found_is)
     (never-rests next looks fs now goes (subst (λ (s : FileState). NeverRests s looks) (sym sees.last) never.1))
 
 -- ---- what was told
 
-settled-idle : (was : Watcher) (looks : List (ℕ × Sight)) (found : List Finding) (now : Watcher) (state : FileState) → Goes was looks found now → AreOf state looks → was.settled ≡ Some state → AreIdle found
-settled-idle was [] [] now state goes of settled = All-nil (λ (f : Finding). f ≡ finding.Nothing)
+settled-idle : (was : Watcher) (looks : List (ℕ × Sight)) (found : List KeyFileFinding) (now : Watcher) (state : FileState) → Goes was looks found now → AreOf state looks → was.settled ≡ Some state → AreIdle found
+settled-idle was [] [] now state goes of settled = All-nil (λ (f : KeyFileFinding). f ≡ finding.Nothing)
 settled-idle was [] (f ∷ fs) now state goes of settled = absurd goes
 settled-idle was (look ∷ looks) [] now state goes of settled = absurd goes
 settled-idle was (look ∷ looks) (f ∷ fs) now state (next, sees, goes) of settled =
     let here : state_before look.1 ≡ state = All-head (λ (l : ℕ × Sight). state_before l.1 ≡ state) look looks of in
     let nothing : f ≡ finding.Nothing =
     ⊎_elim (λ due. absurd (due.0.is_new (settled ∙ ap (λ (s : FileState). Some s) (sym here)))) (λ idle. idle.1) sees.found_is in
-    All-cons (λ (g : Finding). g ≡ finding.Nothing) f fs nothing
+    All-cons (λ (g : KeyFileFinding). g ≡ finding.Nothing) f fs nothing
     (settled-idle next looks fs now state goes (All-tail (λ (l : ℕ × Sight). state_before l.1 ≡ state) look looks of)
-    (sees.settled ∙ ap (λ (g : Finding). settled_by was.settled (state_before look.1) g) nothing ∙ settled))
+    (sees.settled ∙ ap (λ (g : KeyFileFinding). settled_by was.settled (state_before look.1) g) nothing ∙ settled))
 
-news-settles : (settled : Option FileState) (state : FileState) (f : Finding) → IsNews f → settled_by settled state f ≡ Some state
+news-settles : (settled : Option FileState) (state : FileState) (f : KeyFileFinding) → IsNews f → settled_by settled state f ≡ Some state
 news-settles settled state finding.Nothing news = absurd (news refl)
 news-settles settled state (finding.Table table) news = refl
 news-settles settled state (finding.Refused why) news = refl
 
-pub told-once : (was : Watcher) (look : ℕ × Sight) (looks : List (ℕ × Sight)) (first : Finding) (others : List Finding) (now : Watcher) (state : FileState)
+pub told-once : (was : Watcher) (look : ℕ × Sight) (looks : List (ℕ × Sight)) (first : KeyFileFinding) (others : List KeyFileFinding) (now : Watcher) (state : FileState)
     → Goes was (look ∷ looks) (first ∷ others) now → AreOf state (look ∷ looks) → IsNews first → AreIdle others
 told-once was look looks first others now state (next, sees, goes) of news =
     let here : state_before look.1 ≡ state = All-head (λ (l : ℕ × Sight). state_before l.1 ≡ state) look looks of in

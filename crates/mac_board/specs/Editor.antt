@@ -17,21 +17,21 @@ use Rattle.mac_board.specs.declared.listing.ListFinding.{ListFinding}
 use Rattle.mac_board.specs.declared.listing.ListFinding.TheVariants as list
 use Rattle.mac_board.specs.declared.listing.ListUp.{ListUp}
 use Rattle.mac_board.specs.declared.sight.Sight.{Sight}
-use Rattle.mac_board.specs.declared.watcher.Finding.{Finding}
-use Rattle.mac_board.specs.declared.watcher.Finding.TheVariants as finding
+use Rattle.mac_board.specs.declared.watcher.KeyFileFinding.{KeyFileFinding}
+use Rattle.mac_board.specs.declared.watcher.KeyFileFinding.TheVariants as finding
 
 -- the tables that an editor has put up, in order
 abbrev pub tables_of : {R : Type 0} → Editor R → List Table
 tables_of editor = tables editor.publisher
 
 -- what is put up of a finding, with what was taken back
-abbrev pub put_up_of : Revoked → Finding → List Table
+abbrev pub put_up_of : Revoked → KeyFileFinding → List Table
 put_up_of list finding.Nothing = []
 put_up_of list (finding.Table table) = record { keys = table.keys; revoked = list } ∷ []
 put_up_of list (finding.Refused why) = []
 
 -- what is told of it
-abbrev pub news_of : Finding → News
+abbrev pub news_of : KeyFileFinding → News
 news_of finding.Nothing = news.Nothing
 news_of (finding.Table table) = news.Taken (len table.keys)
 news_of (finding.Refused why) = news.Refused why
@@ -46,7 +46,7 @@ pub record PutsUp {R : Type 0} (was : Editor R) (known : Watchers) (names : Name
 -- one look at the key file: the watcher sees it, what it finds is put up with the list that is up,
 -- and what is put up or refused is told
 pub record Keeps {R : Type 0} (was : Editor R) (sight : Sight) (now : Editor R) (told : News) : Type 0 where
-  pub found : Finding
+  pub found : KeyFileFinding
   pub sees : Sees was.watchers.keys (len was.keys) sight found now.watchers.keys
   pub put_up : tables_of now ≡ tables_of was ++ put_up_of was.revoked found
   pub told_is : told ≡ news_of found

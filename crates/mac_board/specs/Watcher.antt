@@ -13,9 +13,9 @@ use Rattle.mac_board.specs.declared.sight.FileState.TheVariants as state
 use Rattle.mac_board.specs.declared.sight.ReadFault.TheVariants as read
 use Rattle.mac_board.specs.declared.sight.Sight.{Sight}
 use Rattle.mac_board.specs.declared.sight.Sight.TheVariants.{Glance, Read}
-use Rattle.mac_board.specs.declared.watcher.Finding.{Finding}
-use Rattle.mac_board.specs.declared.watcher.Finding.TheVariants as finding
-use Rattle.mac_board.specs.declared.watcher.Refusal.TheVariants as refusal
+use Rattle.mac_board.specs.declared.watcher.KeyFileFinding.{KeyFileFinding}
+use Rattle.mac_board.specs.declared.watcher.KeyFileFinding.TheVariants as finding
+use Rattle.mac_board.specs.declared.watcher.KeyFileRefusal.TheVariants as refusal
 use Rattle.mac_board.specs.declared.watcher.Watcher.{Watcher}
 
 -- the file rests: it is found in one state before and after a look, and was found in it at the look
@@ -30,14 +30,14 @@ IsDue was sight = IsDueIn was (state_before sight) (state_after sight)
 
 -- a text's table, where one of so many names is up: that of its lines, unless it has no names and
 -- the other has some; else its first fault
-abbrev pub judged : ℕ → Result Table KeyFault → Finding
+abbrev pub judged : ℕ → Result Table KeyFault → KeyFileFinding
 judged names (Ok table) =
     if len table.keys == 0 && nat_lt 0 names then finding.Refused refusal.Emptied else finding.Table table
 judged names (Err (Line line kind)) = finding.Refused (refusal.Faulty line kind)
 judged names (Err Memory) = finding.Nothing
 
 -- what comes of a look that is to be dealt with
-abbrev pub worth : ℕ → Sight → Finding
+abbrev pub worth : ℕ → Sight → KeyFileFinding
 worth names (Glance state.Missing) = finding.Refused refusal.Missing
 worth names (Glance state.Unknown) = finding.Refused refusal.Unreadable
 worth names (Glance (state.Marked mark)) = finding.Nothing
@@ -47,17 +47,17 @@ worth names (Read before (Err (read.Exposed why)) after) = finding.Refused (refu
 worth names (Read before (Ok text) after) = judged names (table_of text.items)
 
 -- there is something to be done
-abbrev pub IsNews : Finding → Type 0
+abbrev pub IsNews : KeyFileFinding → Type 0
 IsNews found = found ≢ finding.Nothing
 
 -- the state that was dealt with last
-abbrev pub settled_by : Option FileState → FileState → Finding → Option FileState
+abbrev pub settled_by : Option FileState → FileState → KeyFileFinding → Option FileState
 settled_by settled state finding.Nothing = settled
 settled_by settled state (finding.Table table) = Some state
 settled_by settled state (finding.Refused why) = Some state
 
 -- one look: what is due is dealt with, and nothing else is
-pub record Sees (was : Watcher) (names : ℕ) (sight : Sight) (found : Finding) (now : Watcher) : Type 0 where
+pub record Sees (was : Watcher) (names : ℕ) (sight : Sight) (found : KeyFileFinding) (now : Watcher) : Type 0 where
   pub found_is : (IsDue was sight × (found ≡ worth names sight))
       ⊎ ((¬ IsDue was sight) × (found ≡ finding.Nothing))
   pub last : now.last ≡ state_after sight
@@ -66,7 +66,7 @@ pub record Sees (was : Watcher) (names : ℕ) (sight : Sight) (found : Finding) 
 -- ---- many looks, one after the other
 
 -- what came of looks, each of them made while a table of so many names was up
-abbrev pub Goes : Watcher → List (ℕ × Sight) → List Finding → Watcher → Type 0
+abbrev pub Goes : Watcher → List (ℕ × Sight) → List KeyFileFinding → Watcher → Type 0
 Goes was [] [] now = now ≡ was
 Goes was [] (found ∷ others) now = ⊥
 Goes was (look ∷ looks) [] now = ⊥
@@ -74,7 +74,7 @@ Goes was (look ∷ looks) (found ∷ others) now =
     (next : Watcher) × Sees was look.0 look.1 found next × Goes next looks others now
 
 -- nothing came of them
-abbrev pub AreIdle : List Finding → Type 0
+abbrev pub AreIdle : List KeyFileFinding → Type 0
 AreIdle = All (λ found. found ≡ finding.Nothing)
 
 -- no look finds the file, from its begin to its end, as the look before left it

@@ -8,7 +8,7 @@ mod steps;
 
 use crate::listing::ListRefusal;
 use crate::publisher::Publisher;
-use crate::watcher::{Refusal, Watcher};
+use crate::watcher::{KeyFileRefusal, Watcher};
 use mac_keys::{KeyMap, RevokedList};
 use std::sync::Wait;
 
@@ -20,7 +20,7 @@ pub enum News {
     /// A table with so many names was put up.
     Taken(usize),
     /// The file isn't taken, and the table before stays up.
-    Refused(Refusal),
+    Refused(KeyFileRefusal),
 }
 
 /// What is to be told of a look at a list of tokens that were taken back.

@@ -12,7 +12,7 @@ ghost use Rattle.mac_board.specs.declared.listing.ListFinding.{ListFinding};
 ghost use Rattle.mac_board.specs.declared.listing.ListUp.{ListUp};
 ghost use Rattle.mac_board.specs.declared.sight.FileState.{FileState};
 ghost use Rattle.mac_board.specs.declared.sight.Sight.{Sight};
-ghost use Rattle.mac_board.specs.declared.watcher.Finding.{Finding};
+ghost use Rattle.mac_board.specs.declared.watcher.KeyFileFinding.{KeyFileFinding};
 ghost use Rattle.mac_board.specs.declared.watcher.Watcher.{Watcher};
 
 /// Tables that were taken, each by a look of its own, were published, and none before an earlier
@@ -43,19 +43,19 @@ pub fn one_table_is_always_taken()
 /// it was read, after it, and at the look before.
 pub fn what_is_taken_has_rested()
     ensures { (was : Watcher) (names : ℕ) (sight : Sight) (table : Table) (now : Watcher)
-        → Sees was names sight (Finding.Table table) now → HasRested was sight table }
+        → Sees was names sight (KeyFileFinding.Table table) now → HasRested was sight table }
 {}
 
 /// Nothing comes of a file that changes from look to look, or while it is looked at.
 pub fn what_never_rests_is_left_alone()
-    ensures { (was : Watcher) (looks : List (ℕ × Sight)) (found : List Finding) (now : Watcher)
-        → Goes was looks found now → NeverRests was.last looks → AreIdle found }
+    ensures { (was : Watcher) (looks : List (ℕ × Sight)) (found : List KeyFileFinding)
+        (now : Watcher) → Goes was looks found now → NeverRests was.last looks → AreIdle found }
 {}
 
 /// Of a file that stays in one state one thing is told, or one table taken, and nothing after it.
 pub fn each_state_is_told_once()
-    ensures { (was : Watcher) (look : ℕ × Sight) (looks : List (ℕ × Sight)) (first : Finding)
-        (others : List Finding) (now : Watcher) (state : FileState)
+    ensures { (was : Watcher) (look : ℕ × Sight) (looks : List (ℕ × Sight)) (first : KeyFileFinding)
+        (others : List KeyFileFinding) (now : Watcher) (state : FileState)
         → Goes was (look ∷ looks) (first ∷ others) now → AreOf state (look ∷ looks)
         → IsNews first → AreIdle others }
 {}

@@ -35,4 +35,4 @@ pub use outlook::{Current, Outlook, TimedTables};
 pub use publisher::{PublishFault, Publisher};
 pub use sight::{FileState, Mark, ReadFault, Sight, Stamp};
 pub use tables::{FixedTables, Tables};
-pub use watcher::{Finding, Refusal, Watcher};
+pub use watcher::{KeyFileFinding, KeyFileRefusal, Watcher};

@@ -7,7 +7,7 @@ ghost use Rattle.mac_board.specs.Follows.{Begins};
 
 use crate::issue::{Issue, Posted, See, Seen};
 use left_right::reader::Reader;
-use mac_mail::History;
+use mac_queue::History;
 use std::alloc::{AllocError, Global};
 use std::sync::Arc;
 use std::sync::atomic::AtomicU64;

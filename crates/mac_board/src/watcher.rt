@@ -14,7 +14,7 @@ use thiserror::Error;
 
 /// Why a key file isn't taken.
 #[derive(Clone, Copy, Debug, PartialEq, Eq, Error)]
-pub enum Refusal {
+pub enum KeyFileRefusal {
     /// There is none.
     #[error("there is no key file")]
     Missing,
@@ -42,13 +42,13 @@ pub enum Refusal {
 
 /// What comes of a look at a key file.
 #[derive(Drop)]
-pub enum Finding {
+pub enum KeyFileFinding {
     /// There is nothing to be done.
     Nothing,
     /// This table is to be put up.
     Table(KeyTable),
     /// The file isn't taken, which is to be told.
-    Refused(Refusal),
+    Refused(KeyFileRefusal),
 }
 
 /// What is known of a key file: how it was found last, and in which state it was dealt with. It
@@ -87,7 +87,12 @@ impl Watcher {
 
     /// Takes in what a look found, where a table of so many names is up. Where memory runs out,
     /// nothing is taken in.
-    pub fn look(&mut self, alloc: Global, names: usize, sight: Sight) -> Result<Finding, AllocError>
+    pub fn look(
+        &mut self,
+        alloc: Global,
+        names: usize,
+        sight: Sight,
+    ) -> Result<KeyFileFinding, AllocError>
         ensures ok { IfOk result (λ finding. Sees self.old names sight finding self.new) }
         ensures err { OnErr result (self.new ≡ self.old) }
     {
@@ -95,7 +100,7 @@ impl Watcher {
         let finding = if self.is_due(before, after) {
             value(alloc, names, sight)?
         } else {
-            Finding::Nothing
+            KeyFileFinding::Nothing
         };
         self.last = after;
         if is_news(&finding) {
@@ -147,12 +152,12 @@ impl Watcher {
 }
 
 /// Whether there is something to be done.
-fn is_news(finding: &Finding) -> bool
+fn is_news(finding: &KeyFileFinding) -> bool
     ensures { IsTrue result ↔ IsNews finding.now }
 {
     match finding {
-        Finding::Nothing => false,
-        Finding::Table(_) | Finding::Refused(_) => true,
+        KeyFileFinding::Nothing => false,
+        KeyFileFinding::Table(_) | KeyFileFinding::Refused(_) => true,
     }
 }
 
@@ -167,25 +172,27 @@ fn is_list_news(finding: &ListFinding) -> bool
 }
 
 /// What comes of a look that has to be dealt with.
-fn value(alloc: Global, names: usize, sight: Sight) -> Result<Finding, AllocError>
+fn value(alloc: Global, names: usize, sight: Sight) -> Result<KeyFileFinding, AllocError>
     ensures { IfOk result (λ finding. finding ≡ worth names sight) }
 {
     match sight {
-        Sight::Glance(FileState::Missing) => Ok(Finding::Refused(Refusal::Missing)),
-        Sight::Glance(FileState::Unknown) => Ok(Finding::Refused(Refusal::Unreadable)),
-        Sight::Glance(FileState::Marked(_)) => Ok(Finding::Nothing),
+        Sight::Glance(FileState::Missing) => Ok(KeyFileFinding::Refused(KeyFileRefusal::Missing)),
+        Sight::Glance(FileState::Unknown) => Ok(KeyFileFinding::Refused(
+            KeyFileRefusal::Unreadable,
+        )),
+        Sight::Glance(FileState::Marked(_)) => Ok(KeyFileFinding::Nothing),
         Sight::Read {
             text: Err(ReadFault::Unreadable),
             ..
-        } => Ok(Finding::Refused(Refusal::Unreadable)),
+        } => Ok(KeyFileFinding::Refused(KeyFileRefusal::Unreadable)),
         Sight::Read {
             text: Err(ReadFault::TooLong),
             ..
-        } => Ok(Finding::Refused(Refusal::TooLong)),
+        } => Ok(KeyFileFinding::Refused(KeyFileRefusal::TooLong)),
         Sight::Read {
             text: Err(ReadFault::Exposed(why)),
             ..
-        } => Ok(Finding::Refused(Refusal::Exposed(why))),
+        } => Ok(KeyFileFinding::Refused(KeyFileRefusal::Exposed(why))),
         Sight::Read {
             text: Ok(mut text),
             ..
@@ -198,14 +205,16 @@ fn value(alloc: Global, names: usize, sight: Sight) -> Result<Finding, AllocErro
 }
 
 /// The table of a text, or why it isn't taken, where a table of so many names is up.
-fn judge(alloc: Global, names: usize, text: &[u8]) -> Result<Finding, AllocError>
+fn judge(alloc: Global, names: usize, text: &[u8]) -> Result<KeyFileFinding, AllocError>
     ensures { IfOk result (λ finding. finding ≡ judged names (table_of text.now)) }
 {
     match KeyTable::read(alloc, text) {
-        Ok(table) if table.len() == 0 && names > 0 => Ok(Finding::Refused(Refusal::Emptied)),
-        Ok(table) => Ok(Finding::Table(table)),
+        Ok(table) if table.len() == 0 && names > 0 => Ok(KeyFileFinding::Refused(
+            KeyFileRefusal::Emptied,
+        )),
+        Ok(table) => Ok(KeyFileFinding::Table(table)),
         Err(KeyFault::Line { line, kind }) => {
-            Ok(Finding::Refused(Refusal::Faulty { line, kind }))
+            Ok(KeyFileFinding::Refused(KeyFileRefusal::Faulty { line, kind }))
         }
         Err(KeyFault::Memory) => Err(AllocError),
     }

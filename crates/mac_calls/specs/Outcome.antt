@@ -6,8 +6,8 @@ use Rattle.mac_keys.specs.declared.keys.Keys.{Keys}
 use Rattle.mac_wire.specs.declared.reply.Refusal.{Refusal}
 use Rattle.mac_wire.specs.declared.reply.Refusal.TheVariants as refusal
 use Rattle.mac_calls.specs.Asking.{Verifier}
-use Rattle.mac_calls.specs.declared.answering.Outcome.{Outcome}
-use Rattle.mac_calls.specs.declared.answering.Outcome.TheVariants.{NoKey, Minted, Reply, Refused}
+use Rattle.mac_calls.specs.declared.answering.CallOutcome.{CallOutcome}
+use Rattle.mac_calls.specs.declared.answering.CallOutcome.TheVariants.{NoKey, Minted, Reply, Refused}
 use Rattle.mac_calls.specs.declared.call.Call.{Call}
 use Rattle.mac_calls.specs.declared.fault.CallRefusal.TheVariants.{Body, Token}
 use Rattle.mac_calls.specs.declared.call.Call.TheVariants.{Mint, Attenuate, Inspect, Check, Verify}
@@ -43,30 +43,30 @@ abbrev pub verify_answer : Verifier → List ℕ → Step (List ℕ)
 verify_answer v body = object_in Verify body >>= judged (Some v)
 
 -- the reply or the refusal
-abbrev pub told_outcome : Step (List ℕ) → Outcome
+abbrev pub told_outcome : Step (List ℕ) → CallOutcome
 told_outcome (Ok json) = Reply json
 told_outcome (Err why) = Refused (refusal_json why) why
 
 -- the same of a mint
-abbrev pub minted_outcome : Step (List ℕ × List ℕ) → Outcome
+abbrev pub minted_outcome : Step (List ℕ × List ℕ) → CallOutcome
 minted_outcome (Ok told) = Minted told.0 told.1
 minted_outcome (Err why) = Refused (refusal_json why) why
 
 -- what comes of a mint, if the name has keys
-abbrev pub mint_outcome : Option Keys → List ℕ → ℕ → List ℕ → Outcome
+abbrev pub mint_outcome : Option Keys → List ℕ → ℕ → List ℕ → CallOutcome
 mint_outcome None drawn moment body = NoKey
 mint_outcome (Some keys) drawn moment body =
     minted_outcome (mint_answer keys drawn moment body)
 
 -- the same of a verify
-abbrev pub verify_outcome : Table → List ℕ → Option Keys → List ℕ → Outcome
+abbrev pub verify_outcome : Table → List ℕ → Option Keys → List ℕ → CallOutcome
 verify_outcome table name None body = NoKey
 verify_outcome table name (Some keys) body = told_outcome
     (verify_answer (record { keys = keys; name = name; revoked = table.revoked }) body)
 
 -- what comes of a call with a body, under a table at a moment; a mint and a verify alone are about a
 -- name, and a mint alone takes what was drawn
-abbrev pub outcome_of : Table → ℕ → List ℕ → Call → List ℕ → List ℕ → Outcome
+abbrev pub outcome_of : Table → ℕ → List ℕ → Call → List ℕ → List ℕ → CallOutcome
 outcome_of table moment name Mint drawn body =
     mint_outcome (map.get table.keys name) drawn moment body
 outcome_of table moment name Attenuate drawn body = told_outcome (attenuate_answer moment body)
@@ -76,12 +76,12 @@ outcome_of table moment name Verify drawn body =
     verify_outcome table name (map.get table.keys name) body
 
 -- the identifier of the token that an outcome brings, where that was minted
-abbrev pub minted_identifier : Outcome → Option (List ℕ)
+abbrev pub minted_identifier : CallOutcome → Option (List ℕ)
 minted_identifier (Minted json identifier) = Some identifier
 minted_identifier _ = None
 
 -- the refusal of the wire that an outcome is, if it is one: that a body is none of its call isn't
-abbrev pub wire_refusal : Outcome → Option Refusal
+abbrev pub wire_refusal : CallOutcome → Option Refusal
 wire_refusal NoKey = Some refusal.UnknownKey
 wire_refusal (Minted json identifier) = None
 wire_refusal (Reply json) = None

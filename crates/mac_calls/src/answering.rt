@@ -26,7 +26,7 @@ use std::alloc::{AllocError, Global};
 
 /// What comes of a call.
 #[derive(Drop)]
-pub enum Outcome {
+pub enum CallOutcome {
     /// No key has the name.
     NoKey,
     /// The JSON text of a token that was minted.
@@ -47,14 +47,14 @@ pub enum Outcome {
     },
 }
 
-impl Outcome {
+impl CallOutcome {
     /// The identifier of the token that was minted, if one was.
     pub fn identifier(&self) -> Option<&[u8]>
         ensures { option_copied result ≡ minted_identifier self.now }
     {
         match self {
-            Outcome::Minted { identifier, .. } => Some(identifier.as_slice()),
-            Outcome::NoKey | Outcome::Reply(_) | Outcome::Refused { .. } => None,
+            CallOutcome::Minted { identifier, .. } => Some(identifier.as_slice()),
+            CallOutcome::NoKey | CallOutcome::Reply(_) | CallOutcome::Refused { .. } => None,
         }
     }
 
@@ -63,12 +63,13 @@ impl Outcome {
         ensures { result ≡ wire_refusal self.now }
     {
         match self {
-            Outcome::NoKey => Some(Refusal::UnknownKey),
-            Outcome::Refused {
+            CallOutcome::NoKey => Some(Refusal::UnknownKey),
+            CallOutcome::Refused {
                 why: CallRefusal::Token(why),
                 ..
             } => Some(*why),
-            Outcome::Minted { .. } | Outcome::Reply(_) | Outcome::Refused { .. } => None,
+            CallOutcome::Minted { .. } | CallOutcome::Reply(_) | CallOutcome::Refused { .. } =>
+                None,
         }
     }
 }
@@ -99,7 +100,7 @@ pub fn answer(
     name: &[u8],
     call: Call,
     brought: Brought<'_>,
-) -> Result<Outcome, AllocError>
+) -> Result<CallOutcome, AllocError>
     ensures { IfOk result (λ o. o
         ≡ outcome_of table.now brought.entry.moment name.now call brought.entry.drawn.now
         brought.entry.body.now) }
@@ -108,7 +109,7 @@ pub fn answer(
     match call {
         Call::Mint => match table.find(name) {
             Some(keys) => minted_outcome(alloc, mint_answer(alloc, keys, brought)),
-            None => Ok(Outcome::NoKey),
+            None => Ok(CallOutcome::NoKey),
         },
         Call::Attenuate => told_outcome(alloc, attenuate_answer(alloc, brought.moment, body)),
         Call::Inspect => told_outcome(alloc, inspect_answer(alloc, body)),
@@ -123,18 +124,18 @@ pub fn answer(
                 };
                 told_outcome(alloc, verify_answer(alloc, verifier, body))
             }
-            None => Ok(Outcome::NoKey),
+            None => Ok(CallOutcome::NoKey),
         },
     }
 }
 
 /// The reply or the refusal.
-fn told_outcome(alloc: Global, told: Result<Vec<u8>, CallFault>) -> Result<Outcome, AllocError>
+fn told_outcome(alloc: Global, told: Result<Vec<u8>, CallFault>) -> Result<CallOutcome, AllocError>
     ensures { (answer : Step (List ℕ)) → Gives (λ json. json.items) told answer
         → IfOk result (λ o. o ≡ told_outcome answer) }
 {
     match told {
-        Ok(json) => Ok(Outcome::Reply(Bytes::new(json))),
+        Ok(json) => Ok(CallOutcome::Reply(Bytes::new(json))),
         Err(CallFault::Refused(why)) => refused(alloc, why),
         Err(CallFault::Memory) => Err(AllocError),
     }
@@ -144,13 +145,13 @@ fn told_outcome(alloc: Global, told: Result<Vec<u8>, CallFault>) -> Result<Outco
 fn minted_outcome(
     alloc: Global,
     told: Result<(Vec<u8>, Vec<u8>), CallFault>,
-) -> Result<Outcome, AllocError>
+) -> Result<CallOutcome, AllocError>
     ensures { (answer : Step (List ℕ × List ℕ))
         → Gives (λ told. (told.0.items, told.1.items)) told answer
         → IfOk result (λ o. o ≡ minted_outcome answer) }
 {
     match told {
-        Ok((json, identifier)) => Ok(Outcome::Minted {
+        Ok((json, identifier)) => Ok(CallOutcome::Minted {
             json: Bytes::new(json),
             identifier: Bytes::new(identifier),
         }),
@@ -160,12 +161,12 @@ fn minted_outcome(
 }
 
 /// The refusal.
-fn refused(alloc: Global, why: CallRefusal) -> Result<Outcome, AllocError>
+fn refused(alloc: Global, why: CallRefusal) -> Result<CallOutcome, AllocError>
     ensures told { IfOk result (λ o. o ≡ told_outcome (Err why)) }
     ensures minted { IfOk result (λ o. o ≡ minted_outcome (Err why)) }
 {
     let json = refusal_json(alloc, why)?;
-    Ok(Outcome::Refused {
+    Ok(CallOutcome::Refused {
         json: Bytes::new(json),
         why,
     })

@@ -1,7 +1,7 @@
 //! Calls that bring JSON: a token minted, narrowed, looked at or judged.
 //!
 //! [`answer`] takes a [`Call`] with the bytes of its body and some random ones, and gives the
-//! [`Outcome`]: the JSON text of a reply, or of a refusal, or that the key isn't there.
+//! [`CallOutcome`]: the JSON text of a reply, or of a refusal, or that the key isn't there.
 //! `docs/FORMATS.md` has the members. Nothing here knows of HTTP, and nothing reads a device.
 #![tactic(auto)]
 
@@ -24,7 +24,7 @@ mod received;
 mod verifier;
 mod warned;
 
-pub use answering::{Brought, Draws, Outcome, answer};
+pub use answering::{Brought, CallOutcome, Draws, answer};
 pub use call::Call;
 pub use counted::{FACT_MAX, counted_facts};
 pub use fault::{BodyFault, CallRefusal};

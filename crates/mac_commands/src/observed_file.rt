@@ -8,7 +8,7 @@ use crate::key_store::read_text;
 use crate::list_store::read_list_text;
 use crate::people::exposure_of;
 use mac_board::{Exposure, FileState, Mark, ReadFault, Stamp};
-use mac_mail::History;
+use mac_queue::History;
 use std::alloc::{AllocError, Global};
 use std::fs::{File, Files, Metadata};
 use std::io::ErrorKind;

@@ -9,19 +9,19 @@ use Rattle.mac_count.specs.declared.number.Asked.{Asked}
 use Rattle.mac_count.specs.declared.number.Asked.TheVariants as asked
 use Rattle.mac_count.specs.declared.number.Told.{Told}
 use Rattle.mac_count.specs.declared.number.Told.TheVariants as told
-use Rattle.mac_count.specs.declared.number.Request.{Request}
+use Rattle.mac_count.specs.declared.number.AnsweredRequest.{AnsweredRequest}
 use Rattle.mac_count.specs.declared.number.TheConstants.{REQUESTS}
 use Rattle.mac_wire.specs.declared.reply.Refusal.TheVariants as refusal
 use Rattle.mac_count.specs.Number.{request_place}
 use Rattle.mac_count.specs.RequestCounts.{count_of, counted, with_counted, with_all_counted}
 
 -- another place: as it was
-other-place : (counts : List ℕ) (kind request : Request) → (request_place request == request_place kind) ≡ false
+other-place : (counts : List ℕ) (kind request : AnsweredRequest) → (request_place request == request_place kind) ≡ false
     → counted (with_counted counts request) kind ≡ counted counts kind
 other-place counts kind request other = grind (arith, nat_tests, common_steps, get_or-set_other)
 
 -- its own place: one more
-own-place : (counts : List ℕ) (kind request : Request) → (request_place request == request_place kind) ≡ true → request_place request < length counts
+own-place : (counts : List ℕ) (kind request : AnsweredRequest) → (request_place request == request_place kind) ≡ true → request_place request < length counts
     → counted (with_counted counts request) kind ≡ min (counted counts kind + 1) 18_446_744_073_709_551_615
 own-place counts kind request own within = grind (arith, nat_tests, common_steps, get_or-set_same)
 
@@ -49,7 +49,7 @@ asked-told-within asked.Attenuate t = let last = told-within t in omega arith
 asked-told-within asked.Verify t = let last = told-within t in omega arith
 asked-told-within asked.Nothing t = told-within t
 
-pub all_counted : (counts : List ℕ) (kind : Request) (requests : List Request) → length counts ≡ REQUESTS
+pub all_counted : (counts : List ℕ) (kind : AnsweredRequest) (requests : List AnsweredRequest) → length counts ≡ REQUESTS
     → counted counts kind + length requests < 18_446_744_073_709_551_616
     → counted (with_all_counted counts requests) kind ≡ counted counts kind + count_of kind requests
 all_counted counts kind [] size few = omega arith
@@ -57,7 +57,7 @@ all_counted counts kind (request ∷ requests) size few =
     let more : List ℕ = with_counted counts request in
     let within : request_place request < 64 = asked-told-within request.asked request.told in
     let as_long : length more ≡ REQUESTS = length-set counts (request_place request) (min (counted counts request + 1) 18_446_744_073_709_551_615) ∙ size in
-    let split : count_of kind (request ∷ requests) ≡ cond (request_place request == request_place kind) 1 0 + count_of kind requests = sum_by-cons (λ (r : Request). cond (request_place r == request_place kind) 1 0) request requests in
+    let split : count_of kind (request ∷ requests) ≡ cond (request_place request == request_place kind) 1 0 + count_of kind requests = sum_by-cons (λ (r : AnsweredRequest). cond (request_place r == request_place kind) 1 0) request requests in
     elim (request_place request == request_place kind) as (λ t. (request_place request == request_place kind) ≡ t → counted (with_all_counted counts (request ∷ requests)) kind ≡ counted counts kind + count_of kind (request ∷ requests)) [
       | true ↦ λ own.
           let here : counted more kind ≡ min (counted counts kind + 1) 18_446_744_073_709_551_615 = own-place counts kind request own (omega arith) in

@@ -7,7 +7,7 @@ use Rattle.mac_count.specs.declared.number.Asked.{Asked}
 use Rattle.mac_count.specs.declared.number.Asked.TheVariants as asked
 use Rattle.mac_count.specs.declared.number.Told.{Told}
 use Rattle.mac_count.specs.declared.number.Told.TheVariants as told
-use Rattle.mac_count.specs.declared.number.Request.{Request}
+use Rattle.mac_count.specs.declared.number.AnsweredRequest.{AnsweredRequest}
 use Rattle.mac_wire.specs.declared.reply.Refusal.TheVariants as refusal
 use Rattle.mac_count.specs.Number.{all_numbers, all_requests, number_place, request_place}
 
@@ -29,7 +29,7 @@ number_once number.ConnectionsHttp = refl
 number_once number.Revoked = refl
 number_once number.ConnectionsHeavy = refl
 
-request_once_of : (a : Asked) (t : Told) → count_by (λ (other : Request). request_place other == request_place (record { asked = a; told = t })) all_requests ≡ 1
+request_once_of : (a : Asked) (t : Told) → count_by (λ (other : AnsweredRequest). request_place other == request_place (record { asked = a; told = t })) all_requests ≡ 1
 request_once_of asked.Mint told.Granted = refl
 request_once_of asked.Mint told.Token = refl
 request_once_of asked.Mint told.Unsatisfied = refl
@@ -95,5 +95,5 @@ request_once_of asked.Nothing (told.Refused (Some refusal.NotAllowed)) = refl
 request_once_of asked.Nothing (told.Refused (Some refusal.NoClock)) = refl
 request_once_of asked.Nothing (told.Refused (Some refusal.Revoked)) = refl
 
-pub request_once : (r : Request) → count_by (λ (other : Request). request_place other == request_place r) all_requests ≡ 1
+pub request_once : (r : AnsweredRequest) → count_by (λ (other : AnsweredRequest). request_place other == request_place r) all_requests ≡ 1
 request_once r = request_once_of r.asked r.told

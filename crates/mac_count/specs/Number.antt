@@ -5,7 +5,7 @@ use Rattle.mac_count.specs.declared.number.Number.{Number}
 use Rattle.mac_count.specs.declared.number.Number.TheVariants as number
 use Rattle.mac_count.specs.declared.number.Asked.{Asked}
 use Rattle.mac_count.specs.declared.number.Asked.TheVariants as asked
-use Rattle.mac_count.specs.declared.number.Request.{Request}
+use Rattle.mac_count.specs.declared.number.AnsweredRequest.{AnsweredRequest}
 use Rattle.mac_count.specs.declared.number.Told.{Told}
 use Rattle.mac_count.specs.declared.number.Told.TheVariants as told
 use Rattle.mac_wire.specs.declared.reply.Refusal.{Refusal}
@@ -126,7 +126,7 @@ told_place (told.Refused None) = 3
 told_place (told.Refused (Some reason)) = 4 + refusal_place reason
 
 -- the place of a request in a snapshot
-abbrev pub request_place : Request → ℕ
+abbrev pub request_place : AnsweredRequest → ℕ
 request_place r = 16 * asked_place r.asked + told_place r.told
 
 -- what a request may ask for, in the order in which it is written
@@ -145,9 +145,9 @@ all_told =
     told.Refused (Some refusal.NoClock) ∷ told.Refused (Some refusal.Revoked) ∷ []
 
 -- requests that ask this, one for each answer
-abbrev pub requests_of : Asked → List Request
+abbrev pub requests_of : Asked → List AnsweredRequest
 requests_of what = map (λ answer. record { asked = what; told = answer }) all_told
 
 -- all requests, in the order in which they are written
-abbrev pub all_requests : List Request
+abbrev pub all_requests : List AnsweredRequest
 all_requests = flat_map requests_of all_asked

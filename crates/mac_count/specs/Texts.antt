@@ -4,7 +4,7 @@ use Rattle.std.specs.Fmt.{decimal}
 use Rattle.std.specs.List.{flat_map}
 use Rattle.mac_count.specs.declared.number.Asked.{Asked}
 use Rattle.mac_count.specs.declared.number.Number.{Number}
-use Rattle.mac_count.specs.declared.number.Request.{Request}
+use Rattle.mac_count.specs.declared.number.AnsweredRequest.{AnsweredRequest}
 use Rattle.mac_count.specs.declared.number.Told.{Told}
 use Rattle.mac_count.specs.declared.snapshot.Snapshot.{Snapshot}
 use Rattle.mac_count.specs.Number.{all_told, asked_word, number_kind, number_place, number_word}
@@ -17,7 +17,7 @@ abbrev pub number_value : Snapshot → Number → ℕ
 number_value s n = slice_index s.numbers (number_place n)
 
 -- how many requests asked this and were answered that
-abbrev pub request_value : Snapshot → Request → ℕ
+abbrev pub request_value : Snapshot → AnsweredRequest → ℕ
 request_value s r = slice_index s.requests (request_place r)
 
 -- `version TEXT`
@@ -38,7 +38,7 @@ code_text (Some reason) = 32 ∷ decimal (refusal_code reason)
 code_text None = []
 
 -- `requests asked told value`, or `requests asked told number value`
-unfoldable pub request_line : Snapshot → Request → List ℕ
+unfoldable pub request_line : Snapshot → AnsweredRequest → List ℕ
 request_line s r =
     codes "requests " ++ (asked_word r.asked ++ 32 ∷ (told_word r.told
     ++ (code_text (told_reason r.told) ++ 32 ∷ value_text (request_value s r))))
@@ -69,13 +69,13 @@ code_label (Some reason) = codes ",code=\"" ++ (decimal (refusal_code reason) ++
 code_label None = []
 
 -- what was asked, what was answered, and the number of a refusal that has one, as labels
-abbrev pub labels_text : Request → List ℕ
+abbrev pub labels_text : AnsweredRequest → List ℕ
 labels_text r =
     codes "asked=\"" ++ (asked_word r.asked ++ (codes "\",told=\""
     ++ (told_word r.told ++ (codes "\"" ++ code_label (told_reason r.told)))))
 
 -- the same of requests: one metric, with these labels
-unfoldable pub request_metric : Snapshot → Request → List ℕ
+unfoldable pub request_metric : Snapshot → AnsweredRequest → List ℕ
 request_metric s r =
     codes "macaroond_requests_total{" ++ (labels_text r ++ (codes "} " ++ value_text (request_value s r)))
 

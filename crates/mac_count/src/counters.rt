@@ -2,7 +2,7 @@
 
 ghost use Rattle.mac_count.specs.Number.{IsGauge};
 
-use crate::number::{NUMBERS, Number, REQUESTS, Request};
+use crate::number::{AnsweredRequest, NUMBERS, Number, REQUESTS};
 use crate::snapshot::Snapshot;
 use crate::times::{BUCKETS, bucket_of};
 use std::array;
@@ -50,7 +50,7 @@ impl Counters {
     }
 
     /// Counts a request that was answered, and took so many microseconds.
-    pub fn answered(&self, request: Request, micros: u64) {
+    pub fn answered(&self, request: AnsweredRequest, micros: u64) {
         self.requests[request.place()].fetch_add(1, SeqCst);
         self.add_times(1, micros);
     }

@@ -2,7 +2,7 @@
 ghost use Rattle.std.specs.Prelude.{◌≡◌, ◌↔◌, ℕ, ◌+◌, ◌<◌, ◌≤◌, ◌^◌, ◌==◌, List, length};
 ghost use Rattle.std.specs.Prelude.{count_by, slice_index};
 ghost use Rattle.mac_count.specs.declared.number.Number.{Number};
-ghost use Rattle.mac_count.specs.declared.number.Request.{Request};
+ghost use Rattle.mac_count.specs.declared.number.AnsweredRequest.{AnsweredRequest};
 ghost use Rattle.mac_count.specs.declared.number.TheConstants.{REQUESTS};
 ghost use Rattle.mac_count.specs.declared.times.TheConstants.{BOUNDS, BOUND_MICROS};
 ghost use Rattle.mac_count.specs.Times.{bucket_of};
@@ -13,13 +13,13 @@ ghost use Rattle.mac_count.specs.Number.{all_numbers, all_requests, number_place
 pub fn each_is_written_once()
     ensures numbers { (number : Number) →
         count_by (λ other. number_place other == number_place number) all_numbers ≡ 1 }
-    ensures requests { (request : Request) →
+    ensures requests { (request : AnsweredRequest) →
         count_by (λ other. request_place other == request_place request) all_requests ≡ 1 }
 {}
 
 /// Of requests that are counted one after the other, each is counted once, under its own kind.
 pub fn each_request_is_counted_once()
-    ensures { (counts : List ℕ) (kind : Request) (requests : List Request)
+    ensures { (counts : List ℕ) (kind : AnsweredRequest) (requests : List AnsweredRequest)
         → length counts ≡ REQUESTS → counted counts kind + length requests < 2 ^ 64
         → counted (with_all_counted counts requests) kind
         ≡ counted counts kind + count_of kind requests }

@@ -17,7 +17,7 @@ mod times;
 mod version;
 
 pub use counters::Counters;
-pub use number::{ASKED, Asked, NUMBERS, Number, REQUESTS, Request, TOLD, Told};
+pub use number::{ASKED, AnsweredRequest, Asked, NUMBERS, Number, REQUESTS, TOLD, Told};
 pub use request_counts::RequestCounts;
 pub use snapshot::Snapshot;
 pub use std::alloc::AllocError as NoMemory;

@@ -84,7 +84,7 @@ pub enum Told {
 
 /// A request: what it asked for, and what it was answered.
 #[derive(Clone, Copy, PartialEq, Eq)]
-pub struct Request {
+pub struct AnsweredRequest {
     /// What it asked for.
     pub asked: Asked,
     /// What it was answered.
@@ -245,7 +245,7 @@ impl Told {
     }
 }
 
-impl Request {
+impl AnsweredRequest {
     /// Its place among all requests.
     pub fn place(self) -> usize
         ensures place { result ≡ request_place self }

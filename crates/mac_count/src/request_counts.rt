@@ -3,7 +3,7 @@
 ghost use Rattle.std.specs.Prelude.{◌≡◌};
 ghost use Rattle.mac_count.specs.RequestCounts.{no_counts, with_counted};
 
-use crate::number::{REQUESTS, Request};
+use crate::number::{AnsweredRequest, REQUESTS};
 
 /// How many requests were answered since that was last taken, each kind at its place.
 #[derive(Clone, Copy, Debug, PartialEq, Eq)]
@@ -22,7 +22,7 @@ impl RequestCounts {
     }
 
     /// Counts a request.
-    pub fn count(&mut self, request: Request)
+    pub fn count(&mut self, request: AnsweredRequest)
         ensures { self.new.counts ≡ with_counted self.old.counts request }
     {
         let place = request.place();

@@ -4,10 +4,10 @@ ghost use Rattle.std.specs.Prelude.{◌≡◌, min, sum};
 ghost use Rattle.mac_count.specs.Texts.{number_value, request_value};
 ghost use Rattle.mac_count.specs.Times.{timed, within};
 
-use crate::number::{NUMBERS, Number, REQUESTS, Request};
+use crate::number::{AnsweredRequest, NUMBERS, Number, REQUESTS};
 use crate::times::{BUCKETS, bucket_of};
 
-/// A number for each [`Number`] and one for each [`Request`], at its place.
+/// A number for each [`Number`] and one for each [`AnsweredRequest`], at its place.
 #[derive(Clone, Copy, Debug, PartialEq, Eq)]
 pub struct Snapshot {
     /// The numbers that stand alone.
@@ -29,7 +29,7 @@ impl Snapshot {
     }
 
     /// How many requests there were of a kind.
-    pub fn requests(&self, request: Request) -> u64
+    pub fn requests(&self, request: AnsweredRequest) -> u64
         ensures { result ≡ request_value self.now request }
     {
         self.requests[request.place()]

@@ -9,7 +9,7 @@ ghost use Rattle.mac_count.specs.Texts.{request_line, request_metric, status_lin
 ghost use Rattle.mac_count.specs.Texts.{type_line, value_line, value_text};
 
 use crate::NoMemory;
-use crate::number::{Asked, Number, Request, Told};
+use crate::number::{AnsweredRequest, Asked, Number, Told};
 use crate::snapshot::Snapshot;
 use crate::time_texts::{append_times, append_times_lines};
 use mac_wire::Refusal;
@@ -98,7 +98,7 @@ fn append_lines_of(
         ++ lines_for snapshot.now asked answers.now) }
 {
     for told in answers {
-        let request = Request { asked, told: *told };
+        let request = AnsweredRequest { asked, told: *told };
         append_request_line(alloc, snapshot, request, out)?;
     }
     Ok(())
@@ -108,7 +108,7 @@ fn append_lines_of(
 fn append_request_line(
     alloc: Global,
     snapshot: &Snapshot,
-    request: Request,
+    request: AnsweredRequest,
     out: &mut Vec<u8>,
 ) -> Result<(), NoMemory>
     ensures { OnOk result (out.new.items ≡ out.old.items ++ request_line snapshot.now request) }
@@ -216,7 +216,7 @@ fn append_metrics_of(
         ++ metrics_for snapshot.now asked answers.now) }
 {
     for told in answers {
-        let request = Request { asked, told: *told };
+        let request = AnsweredRequest { asked, told: *told };
         append_request(alloc, snapshot, request, out)?;
     }
     Ok(())
@@ -227,7 +227,7 @@ fn append_metrics_of(
 fn append_request(
     alloc: Global,
     snapshot: &Snapshot,
-    request: Request,
+    request: AnsweredRequest,
     out: &mut Vec<u8>,
 ) -> Result<(), NoMemory>
     ensures { OnOk result (out.new.items ≡ out.old.items ++ request_metric snapshot.now request) }
@@ -239,7 +239,7 @@ fn append_request(
 }
 
 /// Appends the labels of a kind of request.
-fn append_labels(alloc: Global, request: Request, out: &mut Vec<u8>) -> Result<(), NoMemory>
+fn append_labels(alloc: Global, request: AnsweredRequest, out: &mut Vec<u8>) -> Result<(), NoMemory>
     ensures { OnOk result (out.new.items ≡ out.old.items ++ labels_text request) }
 {
     out.extend_from_slice(b"asked=\"")?;

@@ -6,13 +6,13 @@ use Rattle.std.proofs.Crossing.{Box-send, crosses}
 use Rattle.std.specs.contracts.result.Result as Result
 use Rattle.mac_board.proofs.follower.Followers.TheSendSync as followers
 use Rattle.mac_daemon.proofs.fault.DaemonFault.TheSendSync as fault
-use Rattle.mac_daemon.proofs.quay.Quay.TheSendSync as quay
+use Rattle.mac_daemon.proofs.shared.DaemonShared.TheSendSync as shared
 use Rattle.mac_daemon.specs.contracts.arrivals.Arrivals as Arrivals
-use Rattle.mac_daemon.specs.contracts.crew.Crew as Crew
+use Rattle.mac_daemon.specs.contracts.unstarted.Unstarted as Unstarted
 use Rattle.mac_daemon.specs.contracts.day.Day as Day
 use Rattle.mac_daemon.specs.contracts.ended_loops.EndedLoops as EndedLoops
 use Rattle.mac_daemon.specs.contracts.fault.DaemonFault as DaemonFault
-use Rattle.mac_daemon.specs.contracts.fleet.FleetParts as FleetParts
+use Rattle.mac_daemon.specs.contracts.running.ServiceParts as ServiceParts
 use Rattle.mac_decide.proofs.job.Job.TheSendSync as job
 use Rattle.mac_decide.proofs.rights.Rights.TheSendSync as rights
 use Rattle.mac_decide.specs.contracts.job.Job as Job
@@ -20,7 +20,7 @@ use Rattle.mac_decide.specs.contracts.job.JobEq.TheImpl as job_eq
 use Rattle.mac_decide.specs.contracts.job.JobPartialEq.TheImpl as job_partial_eq
 use Rattle.mac_decide.specs.contracts.macaroons.Macaroons as Macaroons
 use Rattle.mac_decide.specs.contracts.macaroons.MacaroonsService.TheImpl as service
-use Rattle.mac_host.proofs.ending.Ending.TheSendSync as ending
+use Rattle.mac_host.proofs.ending.DaemonEnd.TheSendSync as ending
 use Rattle.mac_loop.proofs.Sent.{loop_sent, loops_sent, loops_shared, register_field_sent}
 use Rattle.mac_loop.specs.contracts.outcomes.EndedLoop as EndedLoop
 use Rattle.mac_loop.specs.contracts.outcomes.Outcomes as Outcomes
@@ -32,15 +32,15 @@ use Rattle.mac_sockets.proofs.entrance.Entrance.TheSendSync as entrance
 use Rattle.mac_wire.proofs.reply.Reply.TheSendSync as reply
 use Rattle.mac_wire.specs.contracts.reply.Reply as Reply
 
-pub parts_sent : IsSend FleetParts.the_row
-parts_sent = search (sendable, crosses, entrance.the_field_send, rights.the_send, rights.the_sync, quay.the_send, quay.the_sync, followers.the_field_send, ending.the_send, ending.the_sync) depth 20
+pub parts_sent : IsSend ServiceParts.the_row
+parts_sent = search (sendable, crosses, entrance.the_field_send, rights.the_send, rights.the_sync, shared.the_send, shared.the_sync, followers.the_field_send, ending.the_send, ending.the_sync) depth 20
 
-crew_field_sent : (O : RattleType) (origin : Ghosts O.Denot) → IsSend O → IsSend (Crew.the_field O origin).row
-crew_field_sent O origin sent = struct_send (shape (Crew.the_type O origin))
+unstarted_field_sent : (O : RattleType) (origin : Ghosts O.Denot) → IsSend O → IsSend (Unstarted.the_field O origin).row
+unstarted_field_sent O origin sent = struct_send (shape (Unstarted.the_type O origin))
     (search (sendable, crosses, loops_sent O origin sent, loops_shared O origin sent) depth 20, (search (sendable, crosses, Box-send _ (loop_sent O origin sent)) depth 20, (register_field_sent O origin sent, tt)))
 
-pub crew_sent : (O : RattleType) (origin : Ghosts O.Denot) → IsSend O → IsSend (Crew.the_row O origin)
-crew_sent O origin sent = recorded_send (Crew.the_field O origin).row _ _ (Crew.the_type O origin).to_one (crew_field_sent O origin sent)
+pub unstarted_sent : (O : RattleType) (origin : Ghosts O.Denot) → IsSend O → IsSend (Unstarted.the_row O origin)
+unstarted_sent O origin sent = recorded_send (Unstarted.the_field O origin).row _ _ (Unstarted.the_type O origin).to_one (unstarted_field_sent O origin sent)
 
 pub desk_sent : IsSend (Desk.the_row Macaroons.the_row Job.the_row Reply.the_row service.ghosts job_eq.ghosts job_partial_eq.ghosts)
 desk_sent = desk.the_send Macaroons.the_row Job.the_row Reply.the_row service.ghosts job_eq.ghosts job_partial_eq.ghosts job.the_send reply.the_send

@@ -1,7 +1,7 @@
 pub mod Arrivals
 pub mod Asked
 pub mod Books
-pub mod Crew
+pub mod Unstarted
 pub mod Day
 pub mod EndedLoops
 pub mod Fates

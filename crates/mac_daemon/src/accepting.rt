@@ -12,11 +12,11 @@ use crate::arrivals::Arrivals;
 use crate::day::Day;
 use crate::door::Gift;
 use crate::fault::DaemonFault;
-use crate::fleet::Fleet;
 use crate::notice::Notice;
-use crate::quay::Quay;
 use crate::room::Entry;
-use mac_host::{Badge, Life, Socket};
+use crate::running::LentParts;
+use crate::shared::DaemonShared;
+use mac_host::{Badge, Life, REFUSED_MILLIS, Socket};
 use mac_loop::{Enqueued, Handover, Loops, Origin, Register};
 use mac_sockets::{Arrived, Entrance, Fresh};
 use std::alloc::Global;
@@ -27,9 +27,6 @@ use std::{io, thread};
 
 /// The loop that a connection begins in. From there it goes to others where that is busy.
 const FIRST_LOOP: usize = 0;
-
-/// How many milliseconds to wait where the system accepts no connection, for want of descriptors.
-const PAUSE_MILLIS: u64 = 100;
 
 /// A connection that came in.
 #[derive(Drop)]
@@ -48,24 +45,24 @@ pub fn accept_to_end<O, R>(
     rt: &R,
     entrance: &mut Entrance<Gift>,
     register: &mut Register<O>,
-    fleet: &Fleet<'_, O>,
+    lent: &LentParts<'_, O>,
 ) -> Result<Day, DaemonFault>
 where
     O: Origin,
     R: Wait + Clock,
-    ensures day { IfOk result (IsDay fleet.now.count 0 entrance.old) }
+    ensures day { IfOk result (IsDay lent.now.count 0 entrance.old) }
     ensures taken { IfOk result (λ day. day.served ≡ taken_of entrance.new) }
     ensures admitted { AreAdmitted (doors_of entrance.old) register.old
         → AreAdmitted (doors_of entrance.old) register.new }
     ensures come { IfOk result (λ day. HaveCome register.old day.arrivals register.new) }
 {
-    let day = accept_each(rt, entrance, register, fleet);
+    let day = accept_each(rt, entrance, register, lent);
     entrance.close();
-    if fleet.count.is_none() {
-        fleet.quay.say_left(rt);
-        fleet.loops.drain();
+    if lent.count.is_none() {
+        lent.shared.say_left(rt);
+        lent.loops.drain();
     }
-    fleet.quay.await_end(rt);
+    lent.shared.await_end(rt);
     day
 }
 
@@ -87,32 +84,32 @@ fn accept_each<O, R>(
     rt: &R,
     entrance: &mut Entrance<Gift>,
     register: &mut Register<O>,
-    fleet: &Fleet<'_, O>,
+    lent: &LentParts<'_, O>,
 ) -> Result<Day, DaemonFault>
 where
     O: Origin,
     R: Wait + Clock,
-    ensures day { IfOk result (IsDay fleet.now.count 0 entrance.old) }
+    ensures day { IfOk result (IsDay lent.now.count 0 entrance.old) }
     ensures taken { IfOk result (λ day. day.served ≡ taken_of entrance.new) }
     ensures admitted { AreAdmitted (doors_of entrance.old) register.old
         → AreAdmitted (doors_of entrance.old) register.new }
     ensures come { IfOk result (λ day. HaveCome register.old day.arrivals register.new) }
 {
-    let count = fleet.count;
+    let count = lent.count;
     let mut arrivals = Arrivals::none();
     for _ in rt.forever() {
         let served = entrance.taken();
         if has_met(count, served) {
             return Ok(Day::of(served, arrivals));
         }
-        fleet.loops.await_taken(rt, FIRST_LOOP);
+        lent.loops.await_taken(rt, FIRST_LOOP);
         match entrance.accept(rt) {
             Some(Ok(arrived)) => {
-                let newcomer = receive(rt, entrance, arrived, fleet.quay);
-                arrivals.enter(rt, newcomer, register, fleet);
+                let newcomer = receive(rt, entrance, arrived, lent.shared);
+                arrivals.enter(rt, newcomer, register, lent);
             }
             Some(Err(fault)) if count.is_some() => return Err(DaemonFault::System(fault)),
-            Some(Err(fault)) => pause(rt, fleet.alloc, fault, fleet.quay),
+            Some(Err(fault)) => pause(rt, lent.alloc, fault, lent.shared),
             None if count.is_none() => return Ok(Day::of(served, arrivals)),
             None => return Err(DaemonFault::System(ErrorKind::ConnectionAborted.into())),
         }
@@ -121,7 +118,12 @@ where
 }
 
 /// A connection that came in, with what its door gives.
-fn receive<R: Clock>(rt: &R, entrance: &Entrance<Gift>, arrived: Arrived, quay: &Quay) -> Newcomer
+fn receive<R: Clock>(
+    rt: &R,
+    entrance: &Entrance<Gift>,
+    arrived: Arrived,
+    shared: &DaemonShared,
+) -> Newcomer
     requires { arrived.door < length (doors_of entrance.now) }
     ensures badge { result.badge.socket ≡ socket_of_door arrived.door }
     ensures number { result.badge.number ≡ taken_of entrance.now }
@@ -130,7 +132,7 @@ fn receive<R: Clock>(rt: &R, entrance: &Entrance<Gift>, arrived: Arrived, quay: 
 {
     let Arrived { stream, door } = arrived;
     let rights = Arc::try_clone(entrance.gift(door)).ok();
-    let badge = quay.badge(rt, entrance.taken(), Socket::of_door(door));
+    let badge = shared.badge(rt, entrance.taken(), Socket::of_door(door));
     Newcomer {
         stream,
         rights,
@@ -139,11 +141,11 @@ fn receive<R: Clock>(rt: &R, entrance: &Entrance<Gift>, arrived: Arrived, quay: 
 }
 
 /// Waits for a moment where the system gave no connection, and tells why.
-fn pause<R: Wait + Clock>(rt: &R, alloc: Global, fault: io::Error, quay: &Quay) {
+fn pause<R: Wait + Clock>(rt: &R, alloc: Global, fault: io::Error, shared: &DaemonShared) {
     if let Ok(text) = fault.to_string(alloc) {
-        quay.say_refused(rt, text.as_str());
+        shared.say_refused(rt, text.as_str());
     }
-    thread::sleep(rt, Duration::from_millis(PAUSE_MILLIS));
+    thread::sleep(rt, Duration::from_millis(REFUSED_MILLIS));
 }
 
 /// What becomes of a connection that came in.
@@ -163,22 +165,22 @@ pub(crate) fn enter<O: Origin, R: Wait + Clock>(
     rt: &R,
     newcomer: Newcomer,
     register: &mut Register<O>,
-    fleet: &Fleet<'_, O>,
+    lent: &LentParts<'_, O>,
 ) -> Fate
     ensures { HasFared newcomer register.old result register.new }
 {
     let badge = newcomer.badge;
-    let gives_way = match fleet.quay.enter(rt, badge.socket) {
+    let gives_way = match lent.shared.enter(rt, badge.socket) {
         Entry::Free => {
             let mut newcomer = newcomer;
-            newcomer.badge = fleet.quay.listed(rt, badge);
-            return begin(rt, newcomer, register, fleet);
+            newcomer.badge = lent.shared.listed(rt, badge);
+            return begin(rt, newcomer, register, lent);
         }
         Entry::SideFull => Socket::Side,
         Entry::Full(socket) => socket,
     };
-    match meet(fleet.alloc, newcomer, fleet.quay, register) {
-        Ok(client) => hand(rt, fleet.loops, Some(gives_way), client, register),
+    match meet(lent.alloc, newcomer, lent.shared, register) {
+        Ok(client) => hand(rt, lent.loops, Some(gives_way), client, register),
         Err(_) => Fate::Refused,
     }
 }
@@ -189,7 +191,7 @@ fn begin<O: Origin, R: Wait + Clock>(
     rt: &R,
     newcomer: Newcomer,
     register: &mut Register<O>,
-    fleet: &Fleet<'_, O>,
+    lent: &LentParts<'_, O>,
 ) -> Fate
     ensures { HasFared newcomer register.old result register.new }
 {
@@ -197,16 +199,16 @@ fn begin<O: Origin, R: Wait + Clock>(
         badge: newcomer.badge,
         answered: 0,
     };
-    let client = match meet(fleet.alloc, newcomer, fleet.quay, register) {
+    let client = match meet(lent.alloc, newcomer, lent.shared, register) {
         Ok(client) => client,
         Err(notice) => {
-            fleet.quay.refuse(rt, life, notice);
+            lent.shared.refuse(rt, life, notice);
             return Fate::Refused;
         }
     };
-    let fate = hand(rt, fleet.loops, None, client, register);
+    let fate = hand(rt, lent.loops, None, client, register);
     if matches!(fate, Fate::Returned) {
-        fleet.quay.refuse(rt, life, Notice::NoMemory);
+        lent.shared.refuse(rt, life, Notice::NoMemory);
     }
     fate
 }
@@ -215,7 +217,7 @@ fn begin<O: Origin, R: Wait + Clock>(
 fn meet<O: Origin>(
     alloc: Global,
     newcomer: Newcomer,
-    quay: &Quay,
+    shared: &DaemonShared,
     register: &mut Register<O>,
 ) -> Result<Handover<O>, Notice>
     ensures badge { IfOk result (λ client. client.badge ≡ newcomer.badge) }
@@ -232,7 +234,7 @@ fn meet<O: Origin>(
     let Some(rights) = rights else {
         return Err(Notice::NoMemory);
     };
-    let transcript = quay.transcript(alloc);
+    let transcript = shared.transcript(alloc);
     match Handover::begin(alloc, stream, transcript, rights, badge, register) {
         Ok(client) => Ok(client),
         Err(_) => Err(Notice::System),

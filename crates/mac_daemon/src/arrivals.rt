@@ -4,10 +4,10 @@ ghost use Rattle.std.specs.Prelude.{◌≡◌, [], ◌∷◌, ◌++◌};
 ghost use Rattle.mac_daemon.specs.Weights.{AreSorted};
 
 use crate::accepting::{Fate, Newcomer, enter};
-use crate::fleet::Fleet;
+use crate::running::LentParts;
 use mac_host::Badge;
 use mac_loop::{Origin, Register};
-use mac_mail::History;
+use mac_queue::History;
 use std::sync::Wait;
 use std::time::Clock;
 
@@ -47,14 +47,14 @@ impl Arrivals {
         rt: &R,
         newcomer: Newcomer,
         register: &mut Register<O>,
-        fleet: &Fleet<'_, O>,
+        lent: &LentParts<'_, O>,
     )
         ensures accepted { self.new.accepted ≡ self.old.accepted ++ newcomer.badge ∷ [] }
         ensures registered { KeepsRegister newcomer self.old register.old self.new register.new }
     {
         let badge = newcomer.badge;
         self.accepted.add(&badge);
-        match enter(rt, newcomer, register, fleet) {
+        match enter(rt, newcomer, register, lent) {
             Fate::Handed(enqueued) => self.handed.add(enqueued.badge()),
             Fate::Returned => self.returned.add(&badge),
             Fate::Refused => self.refused.add(&badge),

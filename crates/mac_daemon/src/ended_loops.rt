@@ -5,7 +5,7 @@ ghost use Rattle.mac_daemon.specs.Given.{count_given};
 ghost use Rattle.mac_loop.specs.Gone.{count_gone};
 
 use mac_loop::Outcomes;
-use mac_mail::History;
+use mac_queue::History;
 
 /// What became of the connections that loops were given which have ended: each loop handed on,
 /// ended or turned away as many as it was given, and so did all together. Contracts alone see

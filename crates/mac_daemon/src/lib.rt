@@ -8,23 +8,23 @@
 
 mod accepting;
 mod arrivals;
-mod crew;
 mod day;
 mod descriptors;
 mod door;
 mod ended_loops;
 mod fault;
-mod fleet;
 mod listening;
 mod notice;
-mod quay;
 mod room;
+mod running;
+mod shared;
 mod stop;
 mod surroundings;
+mod unstarted;
 
 pub use day::Day;
 pub use door::{Gift, SideSocket, give};
 pub use fault::DaemonFault;
-pub use fleet::{FOLLOWERS_MAX, Shape};
 pub use listening::{Daemon, DaemonTerms, listen};
+pub use running::{FOLLOWERS_MAX, Shape};
 pub use surroundings::Surroundings;

@@ -3,24 +3,24 @@
 ghost use Rattle.std.specs.Prelude.{◌≡◌, ◌+◌, IfOk};
 ghost use denote.Param.Send.{IsSend, IsSync};
 ghost use Rattle.mac_daemon.specs.Asked.{count_of, daemon_doors, entrance_of, loops_of, workers_of};
-ghost use Rattle.mac_daemon.specs.Crew.{count_crew};
+ghost use Rattle.mac_daemon.specs.Unstarted.{count_unstarted};
 ghost use Rattle.mac_daemon.specs.Day.{IsWholeDay};
 ghost use Rattle.mac_daemon.specs.Serving.{Promises};
 ghost use Rattle.mac_loop.specs.Ledger.{IsFreshBook, all_books, name_of};
 ghost use Rattle.mac_sockets.specs.Entrance.{opened, taken_of};
 
-use crate::crew::{Crew, open_ledger};
 use crate::day::{Admission, Day};
 use crate::descriptors::most_connections;
 use crate::door::Gift;
 use crate::fault::DaemonFault;
-use crate::fleet::{FleetParts, Shape, make_seen, run_fleet};
-use crate::quay::Quay;
 use crate::room::Most;
+use crate::running::{ServiceParts, Shape, make_seen, run_service};
+use crate::shared::DaemonShared;
 use crate::stop::Stop;
 use crate::surroundings::{Surroundings, heed_signals};
+use crate::unstarted::{Unstarted, open_ledger};
 use mac_board::Followers;
-use mac_host::{Beginning, Ending, Host, Logged, Notices, Numbers, Roster};
+use mac_host::{Beginning, DaemonEnd, Host, Logged, Notices, Numbers, Roster};
 use mac_loop::{Admitted, Ledger, LedgerBook, LoopParts, Origin};
 use mac_sockets::{Doors, Entrance, Holdings, STACK, SharedBudget};
 use mac_system::{NotifySocket, State};
@@ -64,7 +64,7 @@ pub struct DaemonTerms<'a> {
 pub struct Daemon {
     host: Host,
     stop: Stop,
-    quay: Arc<Quay, Global>,
+    shared: Arc<DaemonShared, Global>,
     manager: Option<NotifySocket>,
     drain: u64,
     serving: Serving,
@@ -96,7 +96,7 @@ where
         is_journal,
     } = surroundings;
     let entrance = Entrance::open(rt, alloc, doors)?;
-    let ending = Ending::new(alloc)?;
+    let ending = DaemonEnd::new(alloc)?;
     let stop = Stop::new(&ending, entrance.shutter())?;
     let notices = start_notices(*rt, alloc, is_journal, terms)?;
     if let Some(signals) = signals {
@@ -107,7 +107,7 @@ where
     numbers.set_keys(rt, terms.names);
     let most = allow_connections(rt, terms, &notices);
     let roster = Roster::new(rt, alloc, most.all, socket_paths(alloc, terms)?)?;
-    let quay = Quay::new(
+    let shared = DaemonShared::new(
         alloc,
         most,
         notices.share()?,
@@ -117,11 +117,11 @@ where
     let seen = make_seen(rt, alloc, terms.shape);
     let budget = SharedBudget::new(alloc, terms.shape.connections_memory())?;
     let loops = terms.shape.loop_parts(&seen, &budget)?;
-    let service = FleetParts {
+    let service = ServiceParts {
         workers: terms.shape.workers,
         entrance,
         count: terms.accept,
-        quay: Arc::try_clone(&quay)?,
+        shared: Arc::try_clone(&shared)?,
         followers,
         ending: Arc::try_clone(&ending)?,
     };
@@ -133,7 +133,7 @@ where
     Ok(Daemon {
         host: Host::new(ending, notices, numbers, roster, seen, budget),
         stop,
-        quay,
+        shared,
         manager,
         drain: terms.drain,
         serving,
@@ -191,7 +191,7 @@ impl Daemon {
         self.tell_manager(rt, State::Stopping);
         let ending = self.host.ending();
         let has_ended = ending.await_end(rt, self.drain);
-        let left = self.quay.live(rt).saturating_add(ending.connections(rt));
+        let left = self.shared.live(rt).saturating_add(ending.connections(rt));
         let cut = if has_ended { 0 } else { left };
         self.host.notices().tell_end(rt, cut);
     }
@@ -204,7 +204,7 @@ impl Daemon {
         if let Err(fault) = manager.tell(state) {
             self.host
                 .notices()
-                .tell_system(rt, "the service manager isn't told", fault);
+                .tell_system(rt, "the service manager isn't told", &fault);
         }
     }
 }
@@ -243,7 +243,7 @@ fn socket_paths(alloc: Global, terms: DaemonTerms<'_>) -> Result<Vec<String>, Al
 fn start_serving<R>(
     rt: R,
     alloc: Global,
-    service: FleetParts,
+    service: ServiceParts,
     loops: &LoopParts,
 ) -> Result<Serving, DaemonFault>
 where
@@ -252,14 +252,14 @@ where
         Promises service loops.now.terms.count serving.promise) }
 {
     let ledger = open_ledger(alloc, loops.terms.count)?;
-    start_crew::<Brand, R>(rt, alloc, service, loops, ledger)
+    start_with_ledger::<Brand, R>(rt, alloc, service, loops, ledger)
 }
 
 /// The same, with loops whose connections are in this ledger, of which this is the book.
-fn start_crew<O, R>(
+fn start_with_ledger<O, R>(
     rt: R,
     alloc: Global,
-    service: FleetParts,
+    service: ServiceParts,
     loops: &LoopParts,
     ledger: (Arc<Ledger<Admitted>, Global>, LedgerBook<Admitted>),
 ) -> Result<Serving, DaemonFault>
@@ -273,25 +273,26 @@ where
         Promises service loops.now.terms.count serving.promise) }
 {
     let (ledger, book) = ledger;
-    let crew: Crew<O> = Crew::make(&rt, alloc, loops, ledger, book)?;
-    start_thread(rt, alloc, service, crew)
+    let unstarted: Unstarted<O> = Unstarted::make(&rt, alloc, loops, ledger, book)?;
+    start_thread(rt, alloc, service, unstarted)
 }
 
 /// Starts the thread that runs these loops, with the promise of what it serves.
 fn start_thread<O, R>(
     rt: R,
     alloc: Global,
-    service: FleetParts,
-    crew: Crew<O>,
+    service: ServiceParts,
+    unstarted: Unstarted<O>,
 ) -> Result<Serving, DaemonFault>
 where
     O: Origin + Send + 'static,
     R: Threads + Wait + Clock + Sync + Copy + Send + 'static,
-    ensures { IfOk result (λ serving. Promises service (count_crew crew) serving.promise) }
+    ensures { IfOk result (λ serving.
+        Promises service (count_unstarted unstarted) serving.promise) }
 {
     let admission = Admission {
         count: service.count,
-        loops: crew.count(),
+        loops: unstarted.count(),
         workers: service.workers,
         entrance: Snapshot::of(&service.entrance),
     };
@@ -299,9 +300,10 @@ where
     let work = move || -> Result<Day, DaemonFault>
         requires { IsSend O.row × (IsSend R.row × IsSync R.row) }
         ensures { IfOk result
-            (IsWholeDay service.count (count_crew crew) service.workers service.entrance) }
+            (IsWholeDay service.count (count_unstarted unstarted) service.workers
+            service.entrance) }
     {
-        let outcome = run_fleet(&rt, alloc, service, crew);
+        let outcome = run_service(&rt, alloc, service, unstarted);
         ending.finish(&rt);
         outcome
     };

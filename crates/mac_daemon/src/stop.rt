@@ -1,6 +1,6 @@
 //! How a daemon is told to end.
 
-use mac_host::{Ending, Notices};
+use mac_host::{DaemonEnd, Notices};
 use mac_sockets::Shutter;
 use std::alloc::{AllocError, Global};
 use std::sync::{Arc, Wait};
@@ -9,14 +9,14 @@ use std::time::Clock;
 /// Tells a daemon to end, and shuts the entrance of its own socket.
 #[derive(Drop)]
 pub struct Stop {
-    ending: Arc<Ending, Global>,
+    ending: Arc<DaemonEnd, Global>,
     shutter: Arc<Shutter, Global>,
 }
 
 impl Stop {
     /// That of a daemon whose connections come in through the entrance of this shutter.
     pub fn new(
-        ending: &Arc<Ending, Global>,
+        ending: &Arc<DaemonEnd, Global>,
         shutter: &Arc<Shutter, Global>,
     ) -> Result<Stop, AllocError> {
         Ok(Stop {

@@ -3,13 +3,14 @@
 use crate::fault::DaemonFault;
 use crate::stop::Stop;
 use mac_host::Notices;
-use mac_system::{NotifySocket, Signal, Signals};
+use mac_system::{NotifySocket, Signal, Signals, is_journal};
 use std::alloc::{Alloc, Global};
 use std::env::Env;
+use std::fs::Files;
 use std::sync::Wait;
+use std::thread;
 use std::thread::Threads;
 use std::time::{Clock, Duration};
-use std::{env, thread};
 
 /// How many milliseconds to wait where the system gives no signals, before they are read again.
 const PAUSE_MILLIS: u64 = 1_000;
@@ -27,11 +28,11 @@ pub struct Surroundings {
 
 impl Surroundings {
     /// What the environment of this process names.
-    pub fn find<R: Env + Alloc<A = Global>>(rt: &R) -> Surroundings {
+    pub fn find<R: Env + Alloc<A = Global> + Files>(rt: &R) -> Surroundings {
         Surroundings {
             signals: Signals::of_environment(rt),
             manager: NotifySocket::of_environment(rt),
-            is_journal: env::var(rt, "JOURNAL_STREAM").is_ok(),
+            is_journal: is_journal(rt),
         }
     }
 
@@ -68,7 +69,7 @@ fn heed_each<R: Wait + Clock>(rt: &R, signals: Signals, stop: &Stop, notices: &N
             Ok(Signal::HangUp) => stop.prompt(rt),
             Ok(Signal::Interrupt | Signal::Terminate) => stop.tell(rt),
             Err(fault) => {
-                notices.tell_system(rt, "signals can't be read", fault);
+                notices.tell_system(rt, "signals can't be read", &fault);
                 thread::sleep(rt, Duration::from_millis(PAUSE_MILLIS));
             }
         }

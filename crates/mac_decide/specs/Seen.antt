@@ -11,7 +11,12 @@ use Rattle.mac_wire.specs.declared.reply.Reply.TheVariants as reply
 use Rattle.mac_decide.specs.Asking.{asking_reply}
 use Rattle.mac_decide.specs.Reading.{is_minted}
 use Rattle.mac_decide.specs.declared.looking.Sight.{Sight}
+use Rattle.mac_decide.specs.declared.part.KeyBytes.{KeyBytes}
 use Rattle.mac_decide.specs.declared.looking.Sight.TheVariants as sight
+
+-- the keys that have these bytes
+abbrev pub keys_with : KeyBytes → Keys
+keys_with bytes = record { first = bytes.first; second = bytes.second }
 
 -- whether what was read is a token, and the chain of one of the keys gives its signature
 abbrev pub is_minted_read : Keys → Result TokenParts TokenRefusal → Bool

@@ -44,11 +44,19 @@ fn is_in_time(moment: u64, caveat: &[u8]) -> bool
     caveat.starts_with(b"time ") && (is_before(moment, caveat) || is_since(moment, caveat))
 }
 
+/// Whether two texts are the same. Those of one length that differ mostly differ in their last
+/// byte: what has to be compared with many is seldom compared to its end.
+fn is_same(text: &[u8], other: &[u8]) -> bool
+    ensures { result ≡ bytes_eq text.now other.now }
+{
+    text.len() == other.len() && text.last() == other.last() && text == other
+}
+
 /// Whether the caveat is one of the facts.
 fn is_fact(caveat: &[u8], facts: &FieldList<'_>) -> bool
     ensures { result ≡ list_any (bytes_eq caveat.now) facts.now }
 {
-    facts.walk().any(|fact| caveat == fact)
+    facts.walk().any(|fact| is_same(caveat, fact))
 }
 
 /// Whether the caveat is satisfied: it is one of the facts, a time limit that the moment is below,
@@ -73,7 +81,7 @@ pub(crate) fn satisfied_in_order(
 {
     let mut others = ahead.walk();
     match others.next() {
-        Some(fact) if fact == caveat => {
+        Some(fact) if is_same(fact, caveat) => {
             *ahead = others;
             true
         }

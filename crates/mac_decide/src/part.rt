@@ -5,7 +5,7 @@ ghost use Rattle.mac_keys.specs.Filter.{hash_of};
 ghost use Rattle.mac_keys.specs.Keys.{listed};
 ghost use Rattle.mac_token.specs.Read.{read_of};
 ghost use Rattle.mac_decide.specs.Reading.{is_minted};
-ghost use Rattle.mac_decide.specs.Seen.{IsFound};
+ghost use Rattle.mac_decide.specs.Seen.{IsFound, keys_with};
 ghost use Rattle.mac_decide.specs.Uses.{IsMintedText, signer_of};
 
 use crate::uses::{NameUses, Signer};
@@ -20,7 +20,7 @@ use std::sync::atomic::Ordering::SeqCst;
 
 /// What a token takes beside its text and what that spells, about: its keys, its place among
 /// others, and what an allocator adds.
-const ASIDE: usize = 464;
+const ASIDE: usize = 336;
 
 /// What each of its caveats takes beside its bytes, about.
 const CAVEAT_ASIDE: usize = 48;
@@ -39,10 +39,32 @@ pub(crate) struct MintedText<'a> {
     pub signer: Signer,
 }
 
+/// What tells the keys of a name from those of others. The hash values that they keep are left out:
+/// what is looked at for each verify is short.
+#[derive(Clone, Copy, PartialEq, Eq)]
+pub struct KeyBytes {
+    first: [u8; 32],
+    second: Option<[u8; 32]>,
+}
+
+impl KeyBytes {
+    fn of(keys: &Keys) -> KeyBytes
+        ensures { keys_with result ≡ keys.now }
+    {
+        KeyBytes {
+            first: keys.first.bytes(),
+            second: match keys.second {
+                Some(second) => Some(second.bytes()),
+                None => None,
+            },
+        }
+    }
+}
+
 /// A token that was found to be minted under one of these keys, as it was read from its text.
 #[derive(Drop)]
 pub(crate) struct SeenToken {
-    keys: Keys,
+    keys: KeyBytes,
     text: Vec<u8>,
     pub(crate) token: Token,
     /// The hash of its identifier, by which a list is asked whether it was taken back.
@@ -54,9 +76,9 @@ pub(crate) struct SeenToken {
     /// Whether it was found since it last would have given way.
     is_used: AtomicBool,
     ghost spelled: { read_of text.items ≡ Ok token },
-    ghost minted: { is_minted (listed keys) token ≡ true },
+    ghost minted: { is_minted (listed (keys_with keys)) token ≡ true },
     ghost hashed: { hash ≡ hash_of token.identifier },
-    ghost signed: { signer ≡ signer_of keys text.items },
+    ghost signed: { signer ≡ signer_of (keys_with keys) text.items },
 }
 
 impl SeenToken {
@@ -72,7 +94,7 @@ impl SeenToken {
         let text = Vec::from_slice(alloc, found.text)?;
         let hash = hash_identifier(token.identifier());
         Ok(SeenToken {
-            keys: *found.keys,
+            keys: KeyBytes::of(found.keys),
             text,
             token,
             hash,
@@ -86,7 +108,7 @@ impl SeenToken {
     fn is(&self, keys: &Keys, text: &[u8]) -> bool
         ensures { IsTrue result → IsFound keys.now text.now self.now.token }
     {
-        self.keys == *keys && self.text.as_slice() == text
+        self.keys == KeyBytes::of(keys) && self.text.as_slice() == text
     }
 
     /// Notes that it is used. Who finds that noted writes nothing: threads that use one token don't

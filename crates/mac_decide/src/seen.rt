@@ -36,9 +36,16 @@ const PARTS: usize = 64;
 /// How many tokens that came once are noted.
 const ONCE: usize = 65_536;
 
+/// What the coin goes on by: 2^32 divided by the golden ratio, so that it falls in step with no
+/// number of tokens that come in turn.
+const COIN_STEP: u32 = 0x9e37_79b9;
+
 /// How many bytes at the end of a text its mark is made of: all of a signature stands in them. It
 /// has 32, and in base64, with what may follow it, 47 at most.
 const END: usize = 48;
+
+/// The same of a token in binary, which ends with its signature.
+const BINARY_END: usize = 32;
 
 /// What threads share of a memory.
 #[derive(Drop)]
@@ -46,8 +53,8 @@ struct Shared {
     parts: Vec<RwLock<Part>>,
     /// Of tokens that came once, what the place leaves of the mark.
     once: Vec<AtomicU32>,
-    /// How many came at whose place another one was noted.
-    others: AtomicU32,
+    /// A coin, by its highest bit, for each that came at whose place another one was noted.
+    coin: AtomicU32,
     hashes: RandomState,
 }
 
@@ -64,7 +71,7 @@ impl Shared {
         Ok(Shared {
             parts,
             once,
-            others: AtomicU32::new(0),
+            coin: AtomicU32::new(0),
             hashes,
         })
     }
@@ -83,16 +90,23 @@ impl Shared {
 
     /// Whether a token of this mark came before. That it came is noted. Where another one is noted,
     /// one in two takes its place, so that of those that come in turn there each is found in time.
+    /// Which one does is no matter of the order in which they come: some might come for ever and
+    /// never be found.
     fn is_again(&self, mark: u64) -> bool {
         let rest = (mark >> 32) as u32;
         let Some(place) = self.once.get((mark % ONCE as u64) as usize) else {
             return false;
         };
         let noted = place.load(SeqCst);
-        if noted == 0 || (noted != rest && self.others.fetch_add(1, SeqCst) % 2 == 0) {
+        if noted == 0 || (noted != rest && self.tosses_head()) {
             place.store(rest, SeqCst);
         }
         noted == rest
+    }
+
+    /// Whether the coin shows its head, as it does one time in two.
+    fn tosses_head(&self) -> bool {
+        self.coin.fetch_add(COIN_STEP, SeqCst) >> 31 == 0
     }
 }
 
@@ -101,8 +115,14 @@ impl Shared {
 fn around_signature(text: &[u8]) -> &[u8] {
     match text {
         [b'{' | b'e', ..] => text,
-        _ => &text[text.len().saturating_sub(END)..],
+        [2, ..] => end_of(text, BINARY_END),
+        _ => end_of(text, END),
     }
+}
+
+/// So many bytes at the end of a text, or all of it.
+fn end_of(text: &[u8], count: usize) -> &[u8] {
+    &text[text.len().saturating_sub(count)..]
 }
 
 /// The same once more, for another thread, where there is any.

@@ -6,7 +6,7 @@ ghost use Rattle.mac_keys.specs.Keys.{listed};
 ghost use Rattle.mac_token.specs.RawToken.{TokenParts};
 ghost use Rattle.mac_decide.specs.Folding.{texts_of};
 ghost use Rattle.mac_decide.specs.Minted.{Minted};
-ghost use Rattle.mac_decide.specs.Verdict.{AreAmong, Satisfied, IsFirstUnsatisfied, found_verdict};
+ghost use Rattle.mac_decide.specs.Verdict.{Satisfied, IsFirstUnsatisfied, found_verdict};
 
 use crate::context::{Context, satisfied_in_order};
 use crate::folding::Texts;
@@ -43,26 +43,7 @@ pub(crate) fn unsatisfied_of(token: &Token, context: &Context<'_>) -> Option<u16
     ensures { MatchOption result (All (λ caveat. Satisfied caveat context.now) token.now.caveats)
         (IsFirstUnsatisfied token.now.caveats context.now) }
 {
-    let caveats = token.caveat_list();
-    if begin_facts(Texts::Held(caveats), &context.facts) {
-        return None;
-    }
-    unsatisfied_in(Texts::Held(caveats), context)
-}
-
-/// Whether the caveats are the first facts, in their order: then all are satisfied. What is asked
-/// with a token often comes so, and nothing else costs less to tell.
-fn begin_facts(mut caveats: Texts<'_>, facts: &FieldList<'_>) -> bool
-    ensures { IsTrue result → AreAmong (texts_of caveats.entry) facts.now }
-{
-    let mut ahead = facts.walk();
-    while let Some(caveat) = caveats.next() {
-        match ahead.next() {
-            Some(fact) if fact == caveat => {}
-            _ => return false,
-        }
-    }
-    true
+    unsatisfied_in(Texts::Held(token.caveat_list()), context)
 }
 
 /// The index of the first of a token's caveats that isn't satisfied.

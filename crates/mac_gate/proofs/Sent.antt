@@ -24,7 +24,7 @@ use Rattle.mac_gate.specs.contracts.offer.AddressTerms as AddressTerms
 use Rattle.mac_gate.specs.contracts.offer.Offer as Offer
 use Rattle.mac_gate.specs.contracts.waiting.Waiting as Waiting
 use Rattle.mac_page.proofs.site.Site.TheSendSync as site
-use Rattle.mac_sockets.proofs.account.Account.TheSendSync as account
+use Rattle.mac_sockets.proofs.account.BudgetAccount.TheSendSync as account
 use Rattle.mac_sockets.proofs.connections.Connections.TheSendSync as connections
 use Rattle.mac_sockets.proofs.stream.Stream.TheSendSync as stream
 

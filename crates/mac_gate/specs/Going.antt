@@ -1,8 +1,8 @@
 -- How a connection over HTTP goes on from turn to turn (this project's own).
-use Rattle.std.specs.Prelude.{◌≡◌, ◌⊎◌, ℕ, IfSome, List, ◌++◌, Option, Some, None, option_map}
+use Rattle.std.specs.Prelude.{◌≡◌, ◌⊎◌, ℕ, IfSome, List, ◌++◌, Option, Some, None, count_by, not, option_map}
 use Rattle.http_server.specs.Connection.{history}
 use Rattle.http_server.specs.Exchange.{Call}
-use Rattle.mac_slots.specs.Slots.{Slots, at, held}
+use Rattle.mac_slots.specs.Slots.{Slots, at, held, is_free}
 use Rattle.mac_sockets.specs.declared.stream.Stream.{Stream}
 use Rattle.mac_gate.specs.declared.connection.HttpConnection.{HttpConnection}
 use Rattle.mac_gate.specs.declared.offer.Offer.{Offer}
@@ -67,6 +67,10 @@ KeepTheirs old new = (slot : ℕ) → past_at new slot ≡ past_at old slot
 -- each connection that is in a slot was in that slot, and goes on from what it had
 abbrev pub StayInPlace : Slots HttpConnection → Slots HttpConnection → Type 0
 StayInPlace old new = (slot : ℕ) → IsKept (past_at old slot) (past_at new slot)
+
+-- how many slots are somebody's
+abbrev pub count_there : Slots HttpConnection → ℕ
+count_there slots = count_by (λ slot. not (is_free slot)) slots.slots
 
 -- each connection that is in a slot is offered this
 abbrev pub AreOffered : Offer → Slots HttpConnection → Type 0

@@ -1,10 +1,10 @@
 -- How a daemon is, as it tells it (this project's own).
 use Rattle.std.specs.Prelude.{ℕ, Bool, false, true, List, [], ◌∷◌, ◌++◌, codes}
-use Rattle.mac_http.specs.declared.page.Told.{Told}
-use Rattle.mac_http.specs.declared.page.Told.TheVariants.{Unwell, Well}
+use Rattle.mac_http.specs.declared.page.PageTold.{PageTold}
+use Rattle.mac_http.specs.declared.page.PageTold.TheVariants.{Unwell, Well}
 
 -- it is well where it wasn't told to end, and its last key file wasn't refused
-abbrev pub health_of : (is_ending are_keys_refused : Bool) → Told
+abbrev pub health_of : (is_ending are_keys_refused : Bool) → PageTold
 health_of false false = Well
 health_of false true = Unwell
 health_of true refused = Unwell

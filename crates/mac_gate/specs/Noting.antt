@@ -2,7 +2,7 @@
 use Rattle.std.specs.Prelude.{◌≡◌, ℕ, Bool, true, false, ◌==◌, ◌||◌, if◌then◌else◌, Option, Some, None, List, codes}
 use Rattle.std.specs.Prelude.{option_copied, option_map, take}
 use Rattle.mac_count.specs.declared.number.Asked.TheVariants as asked
-use Rattle.mac_count.specs.declared.number.Request.{Request}
+use Rattle.mac_count.specs.declared.number.AnsweredRequest.{AnsweredRequest}
 use Rattle.mac_count.specs.declared.number.Told.{Told}
 use Rattle.mac_count.specs.declared.number.Told.TheVariants as told
 use Rattle.mac_host.specs.Exchange.{noted_identifier, told_id, told_name}
@@ -37,7 +37,7 @@ told_of_call (Some (reason.Refused why)) status = told.Refused (Some why)
 told_of_call _ status = if is_well status then told.Token else told.Refused None
 
 -- what a request is counted as, if it is: what needs no key isn't
-abbrev pub counted_as : Asks → Option Reason → ℕ → Option Request
+abbrev pub counted_as : Asks → Option Reason → ℕ → Option AnsweredRequest
 counted_as asks.Verify why status =
     Some (record { asked = asked.Verify; told = told_of_verify why status })
 counted_as asks.Mint why status =

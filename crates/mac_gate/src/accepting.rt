@@ -4,6 +4,7 @@ ghost use Rattle.std.specs.Prelude.{◌≡◌, IfSome};
 ghost use Rattle.mac_sockets.specs.Entrance.{doors_of};
 
 use crate::shared::Shared;
+use mac_host::REFUSED_MILLIS;
 use mac_sockets::{Arrived, Entrance, STACK};
 use std::alloc::Global;
 use std::snapshot::Snapshot;
@@ -11,9 +12,6 @@ use std::sync::{Arc, Wait};
 use std::thread;
 use std::thread::{Builder, Promise, PromisedHandle, Threads};
 use std::time::{Clock, Duration};
-
-/// How many milliseconds to wait where the system accepts no connection, for want of descriptors.
-const PAUSE_MILLIS: u64 = 100;
 
 /// Where the connections of a server come in, from its begin to its end.
 #[derive(Drop)]
@@ -70,7 +68,7 @@ fn accept_each<R: Wait + Clock>(rt: &R, entrance: &mut Entrance<()>, server: &Sh
             }
             Some(Err(fault)) => {
                 server.tell_refused(rt, fault);
-                thread::sleep(rt, Duration::from_millis(PAUSE_MILLIS));
+                thread::sleep(rt, Duration::from_millis(REFUSED_MILLIS));
             }
             None => return,
         }

@@ -14,6 +14,7 @@ use crate::note::HttpNote;
 use crate::offer::Offer;
 use crate::turning::InTurn;
 use http_server::Connection;
+use mac_host::DROPPED_MICROS;
 use mac_sockets::{Fresh, Holds, Readiness, Stream, Wakes};
 use mio::{Registry, Token};
 use std::alloc::Global;
@@ -27,9 +28,6 @@ use std::time::Clock;
 /// How many bytes one read takes at most: in a turn, or behind the last response, where they are
 /// dropped.
 pub const PIECE: usize = 16_384;
-
-/// How many microseconds pass before each read that drops what comes, at most.
-const DROPPED_MICROS: u64 = 100_000;
 
 /// A connection of a loop. What was written to it is a beginning of HTTP's answers to what was
 /// read, and each response is the one that its address offers for its request, by the way that its

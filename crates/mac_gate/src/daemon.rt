@@ -15,7 +15,7 @@ use mac_calls::Draws;
 use mac_count::Number;
 use mac_decide::SeenTokens;
 use mac_host::{Host, microseconds};
-use mac_http::{Monitor, Noted, Page, Told};
+use mac_http::{Monitor, Noted, Page, PageTold};
 use mac_keys::KeyTable;
 use std::alloc::{AllocError, Global};
 use std::random::RandomSource;
@@ -42,7 +42,7 @@ impl<'a, R: Wait + Clock> OwnDaemon<'a, R> {
     }
 
     /// Tells how the daemon is.
-    fn tell_health(&self, text: &mut Vec<u8>) -> Result<Told, AllocError>
+    fn tell_health(&self, text: &mut Vec<u8>) -> Result<PageTold, AllocError>
         ensures { IfOk result (Adds TellsHealth text.old.items text.new.items) }
     {
         let refused = self.host().numbers().snapshot().number(Number::KeysRefused);
@@ -50,17 +50,21 @@ impl<'a, R: Wait + Clock> OwnDaemon<'a, R> {
     }
 
     /// Tells what it has counted, as Prometheus reads it.
-    fn tell_numbers(&self, text: &mut Vec<u8>) -> Result<Told, AllocError>
+    fn tell_numbers(&self, text: &mut Vec<u8>) -> Result<PageTold, AllocError>
         ensures { IfOk result (Adds (TellsNumbers self.now.version.now)
             text.old.items text.new.items) }
     {
         let numbers = self.host().numbers().snapshot();
         append_numbers(self.alloc, self.version, &numbers, text)?;
-        Ok(Told::Well)
+        Ok(PageTold::Well)
     }
 
     /// Tells what it has counted, a line for each number, and these keys.
-    fn tell_status(&self, keys: Option<&KeyTable>, text: &mut Vec<u8>) -> Result<Told, AllocError>
+    fn tell_status(
+        &self,
+        keys: Option<&KeyTable>,
+        text: &mut Vec<u8>,
+    ) -> Result<PageTold, AllocError>
         ensures { IfOk result (Adds (TellsStatus self.now.version.now (option_copied keys.entry))
             text.old.items text.new.items) }
     {
@@ -71,20 +75,20 @@ impl<'a, R: Wait + Clock> OwnDaemon<'a, R> {
             uses: uses.as_slice(),
         };
         append_status_page(self.alloc, self.version, &shown, keys, text)?;
-        Ok(Told::Well)
+        Ok(PageTold::Well)
     }
 
     /// Tells how the keys of each name are used, as Prometheus reads it.
-    fn tell_uses(&self, text: &mut Vec<u8>) -> Result<Told, AllocError>
+    fn tell_uses(&self, text: &mut Vec<u8>) -> Result<PageTold, AllocError>
         ensures { IfOk result (Adds TellsUses text.old.items text.new.items) }
     {
         let uses = self.host().seen().uses(self.rt, self.alloc)?;
         append_uses(self.alloc, uses.as_slice(), text)?;
-        Ok(Told::Well)
+        Ok(PageTold::Well)
     }
 
     /// Tells its connections, a line for each.
-    fn tell_connections(&self, text: &mut Vec<u8>) -> Result<Told, AllocError>
+    fn tell_connections(&self, text: &mut Vec<u8>) -> Result<PageTold, AllocError>
         ensures { IfOk result (Adds TellsConnections text.old.items text.new.items) }
     {
         let mut lines = Vec::new(self.alloc);
@@ -92,7 +96,7 @@ impl<'a, R: Wait + Clock> OwnDaemon<'a, R> {
             .roster()
             .append_lines(self.rt, self.alloc, &mut lines)?;
         text.extend_from_slice(&lines)?;
-        Ok(Told::Well)
+        Ok(PageTold::Well)
     }
 
     /// Counts a request, if it is counted.
@@ -140,7 +144,7 @@ impl<'a, R: Wait + Clock + RandomSource> Monitor for OwnDaemon<'a, R> {
         page: Page,
         keys: Option<&KeyTable>,
         text: &mut Vec<u8>,
-    ) -> Result<Told, AllocError> {
+    ) -> Result<PageTold, AllocError> {
         match page {
             Page::Health => self.tell_health(text),
             Page::Numbers => self.tell_numbers(text),
@@ -162,19 +166,19 @@ fn append_health(
     is_ending: bool,
     are_keys_refused: bool,
     text: &mut Vec<u8>,
-) -> Result<Told, AllocError>
+) -> Result<PageTold, AllocError>
     ensures told { IfOk result (λ told. told ≡ health_of is_ending are_keys_refused) }
     ensures text { OnOk result
         (text.new.items ≡ text.old.items ++ health_text is_ending are_keys_refused) }
 {
     if is_ending {
         text.extend_from_slice(b"it was told to end\n")?;
-        return Ok(Told::Unwell);
+        return Ok(PageTold::Unwell);
     }
     if are_keys_refused {
         text.extend_from_slice(b"the last key file was refused; the keys stay as they were\n")?;
-        return Ok(Told::Unwell);
+        return Ok(PageTold::Unwell);
     }
     text.extend_from_slice(b"ok\n")?;
-    Ok(Told::Well)
+    Ok(PageTold::Well)
 }

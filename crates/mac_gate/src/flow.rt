@@ -5,7 +5,7 @@ ghost use Rattle.std.specs.Io.{ReadsAtMost};
 ghost use Rattle.mac_gate.specs.Lives.{Hears};
 
 use crate::gathering::Gathered;
-use mac_mail::History;
+use mac_queue::History;
 use mac_sockets::{Fresh, Stream};
 use std::alloc::Global;
 use std::io;

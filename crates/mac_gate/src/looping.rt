@@ -2,7 +2,7 @@
 
 ghost use Rattle.std.specs.Prelude.{◌≡◌, IfOk, IfSome};
 ghost use Rattle.mac_gate.specs.Answered.{GoesByTurns, known_to};
-ghost use Rattle.mac_gate.specs.Going.{AreOffered, StayInPlace};
+ghost use Rattle.mac_gate.specs.Going.{AreOffered, StayInPlace, count_there};
 
 use crate::answering::Answering;
 use crate::connection::{HttpConnection, PIECE};
@@ -39,14 +39,18 @@ pub struct HttpLoop {
     ghost offered: { ∥ AreOffered offer.value connections.connections.slots ∥₁ },
 }
 
-/// What the loop of a thread offers, from its begin to its end.
+/// What the loop of a thread offers, from its begin to its end. It ends with nobody.
 #[derive(Drop)]
 pub struct Offering {
     pub offer: Snapshot<Offer>,
 }
 
 impl Promise<Snapshot<HttpLoop>> for Offering {
-    ghost kept_by = { λ p end. end.value.offer.value ≡ p.offer.value };
+    ghost use Rattle.std.specs.Prelude.{◌≡◌};
+    ghost use Rattle.mac_gate.specs.Going.{count_there};
+
+    ghost kept_by = { λ p end. (end.value.offer.value ≡ p.offer.value)
+        × (count_there end.value.connections.connections.slots ≡ 0) };
 }
 
 /// The thread of a loop.
@@ -90,7 +94,8 @@ impl HttpLoop {
             offer: Snapshot::of(&*self.offer),
         };
         let work = move || -> Snapshot<HttpLoop>
-            ensures { result.value.offer.value ≡ self.offer.value }
+            ensures offer { result.value.offer.value ≡ self.offer.value }
+            ensures nobody { count_there result.value.connections.connections.slots ≡ 0 }
         {
             let mut own = self;
             own.serve(&rt, alloc, &server);
@@ -104,7 +109,8 @@ impl HttpLoop {
 
     /// Serves the loop's connections to the end of the last one.
     fn serve<R: Wait + Clock + RandomSource>(&mut self, rt: &R, alloc: Global, server: &Shared)
-        ensures { self.new.offer ≡ self.old.offer }
+        ensures offer { self.new.offer ≡ self.old.offer }
+        ensures nobody { count_there self.new.connections.connections.slots ≡ 0 }
     {
         let keys = self.keys.take();
         let mut answering = Answering {
@@ -121,6 +127,7 @@ impl HttpLoop {
     /// the last one.
     fn run<R: Wait + Clock + RandomSource>(&mut self, rt: &R, answering: &mut Answering<'_, R>)
         ensures offer { self.new.offer ≡ self.old.offer }
+        ensures nobody { count_there self.new.connections.connections.slots ≡ 0 }
         ensures turns { GoesByTurns (known_to answering.old.keys) (known_to answering.new.keys) }
     {
         let (alloc, server) = (answering.alloc, answering.server);

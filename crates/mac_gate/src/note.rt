@@ -6,13 +6,11 @@ use crate::devices::Spoken;
 use crate::flow::Heard;
 use crate::load::Load;
 use crate::weight::Weight;
+use mac_host::DROPPED_READS;
 
 /// How many bytes one read takes at most. So a turn answers one long request at most, and as many
 /// bytes behind it.
 const READ_MAX: u64 = 8_192;
-
-/// How many reads behind the last response drop what comes.
-const DROPPED_READS: usize = 64;
 
 /// What a loop knows of a connection.
 #[derive(Clone, Copy)]

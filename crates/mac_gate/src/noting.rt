@@ -6,26 +6,26 @@ ghost use Rattle.mac_gate.specs.Noting.{identifier_of, logged_reason, told_ident
 ghost use Rattle.mac_gate.specs.Noting.{told_of_verify, verdict_word, well_word};
 
 use http::StatusCode;
-use mac_count::{Asked, Request, Told};
+use mac_count::{AnsweredRequest, Asked, Told};
 use mac_host::{Exchange, LoggedReason, copy_identifier_of, copy_told_id, copy_told_identifier};
 use mac_http::{Asks, Noted, Reason};
 use std::alloc::{AllocError, Global};
 
 /// What a request is counted as, if it is counted: what needs no key isn't.
-pub fn request_of(noted: &Noted<'_>) -> Option<Request>
+pub fn request_of(noted: &Noted<'_>) -> Option<AnsweredRequest>
     ensures { result ≡ counted_as noted.now.asks noted.now.reason noted.now.status }
 {
     let (asks, reason, status) = (noted.asks, noted.reason, noted.status);
     match asks {
-        Asks::Verify => Some(Request {
+        Asks::Verify => Some(AnsweredRequest {
             asked: Asked::Verify,
             told: told_of_verify(reason, status),
         }),
-        Asks::Mint => Some(Request {
+        Asks::Mint => Some(AnsweredRequest {
             asked: Asked::Mint,
             told: told_of_call(reason, status),
         }),
-        Asks::Attenuate => Some(Request {
+        Asks::Attenuate => Some(AnsweredRequest {
             asked: Asked::Attenuate,
             told: told_of_call(reason, status),
         }),

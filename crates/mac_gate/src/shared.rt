@@ -2,7 +2,7 @@
 
 use crate::limit::Limit;
 use crate::terms::Bounds;
-use mac_host::Host;
+use mac_host::{DISPLACING_MAX, Host};
 use mac_sockets::{Fresh, Inbox, Shutter};
 use mio::Waker;
 use std::alloc::{AllocError, Global};
@@ -11,9 +11,6 @@ use std::sync::atomic::Ordering::SeqCst;
 use std::sync::atomic::{AtomicBool, AtomicU64, AtomicUsize};
 use std::sync::{Arc, Mutex, Wait};
 use std::time::Clock;
-
-/// How many connections at most come into loops at a time in place of others.
-const DISPLACING_MAX: usize = 16;
 
 /// A connection that is handed to a loop.
 #[derive(Drop)]

@@ -2,14 +2,16 @@
 
 ghost use Rattle.std.specs.Prelude.{◌≡◌, ◌≢◌, ℕ, IfOk, false, true};
 ghost use Rattle.mac_gate.specs.Answered.{HasTurn, known_to};
-ghost use Rattle.mac_gate.specs.Going.{KeepTheirs, StayInPlace, TakesIn, past_at, past_of};
+ghost use Rattle.mac_gate.specs.Going.{KeepTheirs, StayInPlace, TakesIn, count_there, past_at, past_of};
 ghost use Rattle.mac_slots.specs.Slots.{Lent, at, no_slots};
+
+mod letting_go;
 
 use crate::answering::Answering;
 use crate::connection::HttpConnection;
 use crate::turns::Turns;
 use mac_host::microseconds_of;
-use mac_sockets::{Account, Connections, Holds, REST_MIN, Readiness, SharedBudget, heaviest};
+use mac_sockets::{BudgetAccount, Connections, Holds, Readiness, SharedBudget};
 use mio::{Token, Waker};
 use std::alloc::Global;
 use std::collections::VecDeque;
@@ -39,7 +41,7 @@ struct PutOff {
 pub struct Waiting {
     connections: Connections<HttpConnection>,
     // What they have of the memory of all.
-    account: Account,
+    account: BudgetAccount,
     // Those that are ready and have a dear request.
     dear: Turns,
     // Both in microseconds.
@@ -63,7 +65,7 @@ impl Waiting {
     {
         let (connections, waker) = Connections::new(rt, alloc)?;
         let waiting = Waiting {
-            account: Account::open(rt, budget, connections.waker()?)?,
+            account: BudgetAccount::open(rt, budget, connections.waker()?)?,
             connections,
             dear: Turns::new(alloc),
             patience,
@@ -74,7 +76,9 @@ impl Waiting {
     }
 
     /// How many there are.
-    pub fn count(&self) -> usize {
+    pub fn count(&self) -> usize
+        ensures { result ≡ count_there self.now.connections.slots }
+    {
         self.connections.slots.count()
     }
 
@@ -205,30 +209,6 @@ impl Waiting {
         self.connections.slots.list(slot);
     }
 
-    /// Lets the connection go to which nothing was sent for longest, where that is for long enough.
-    /// Whether there is one.
-    pub fn drop_stalest(&mut self) -> bool
-        ensures { StayInPlace self.old.connections.slots self.new.connections.slots }
-    {
-        let Some((slot, since)) = self.stalest() else {
-            return false;
-        };
-        let has_rested = self.now().saturating_sub(since) >= REST_MIN;
-        has_rested && self.release(slot)
-    }
-
-    /// Lets the connection of a slot go. Whether there is one.
-    fn release(&mut self, slot: usize) -> bool
-        ensures { StayInPlace self.old.connections.slots self.new.connections.slots }
-    {
-        self.dear.leave(slot);
-        let Some(one) = self.connections.slots.release(slot) else {
-            return false;
-        };
-        self.account.count(one.held(), 0);
-        true
-    }
-
     /// Whether one is ready, or has its turn among those with a dear request.
     fn has_turn(&self) -> bool {
         self.connections.slots.has_ready() || !self.dear.is_empty()
@@ -247,69 +227,6 @@ impl Waiting {
         ensures { self.new.connections.slots ≡ self.old.connections.slots }
     {
         let _ = self.account.settle(rt);
-    }
-
-    /// Lets the connection go that holds most, where one of this loop is to end. Whether there is
-    /// one.
-    pub fn drop_heaviest<R: Wait>(&mut self, rt: &R) -> bool
-        ensures { StayInPlace self.old.connections.slots self.new.connections.slots }
-    {
-        if !self.account.must_end(rt) {
-            return false;
-        }
-        let Some(heavy) = heaviest(&self.connections.slots) else {
-            return false;
-        };
-        let is_gone = self.release(heavy.slot);
-        self.settle(rt);
-        is_gone
-    }
-
-    /// Where there was no memory for a turn that is due, waits for what other loops give back.
-    pub fn await_others<R: Wait + Clock>(&self, rt: &R) {
-        if self.account.lacks() && self.has_turn() {
-            self.account.await_others(rt);
-        }
-    }
-
-    /// When something was sent to that one, in microseconds.
-    pub fn stalest_since(&self) -> Option<u64> {
-        let (_, since) = self.stalest()?;
-        Some(since)
-    }
-
-    /// The slot of the connection to which nothing was sent for longest, and when something was.
-    fn stalest(&self) -> Option<(usize, u64)> {
-        let mut stalest: Option<(usize, u64)> = None;
-        for slot in 0..self.bound() {
-            if let Some(one) = self.connections.slots.get(slot) {
-                let since = one.since();
-                if stalest.is_none_or(|(_, other)| since < other) {
-                    stalest = Some((slot, since));
-                }
-            }
-        }
-        stalest
-    }
-
-    /// Takes nothing more from those that are idle than what has come.
-    pub fn end_idle(&mut self)
-        ensures { KeepTheirs self.old.connections.slots self.new.connections.slots }
-    {
-        for slot in 0..self.bound() {
-            self.end_if_idle(slot);
-        }
-    }
-
-    /// The same of one of them.
-    fn end_if_idle(&mut self, slot: usize)
-        ensures { KeepTheirs self.old.connections.slots self.new.connections.slots }
-    {
-        let Some(one) = self.connections.slots.get_mut(slot) else {
-            return;
-        };
-        one.end_if_idle();
-        self.list(slot);
     }
 
     /// The next slot that is ready. None where its connection has a dear request: it waits for its

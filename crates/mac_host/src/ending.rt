@@ -1,7 +1,7 @@
 //! How far a daemon is: whether it has begun, was told to end, and has ended.
 
 use crate::notices::Notices;
-use crate::standing::{Call, Standing};
+use crate::standing::{Instruction, Standing};
 use mac_sockets::Shutter;
 use std::alloc::{AllocError, Global};
 use std::sync::{Arc, Condvar, CondvarTimeouts, Mutex, Wait};
@@ -9,17 +9,17 @@ use std::time::{Clock, Duration};
 
 /// What a daemon that may be told to end shares with who tells it.
 #[derive(Drop)]
-pub struct Ending {
+pub struct DaemonEnd {
     standing: Mutex<Standing>,
     change: Condvar,
     // They shut where connections of further servers come in.
     shutters: Mutex<Vec<Arc<Shutter, Global>>>,
 }
 
-impl Ending {
+impl DaemonEnd {
     /// The end of a daemon that hasn't begun.
-    pub fn new(alloc: Global) -> Result<Arc<Ending, Global>, AllocError> {
-        let ending = Ending {
+    pub fn new(alloc: Global) -> Result<Arc<DaemonEnd, Global>, AllocError> {
+        let ending = DaemonEnd {
             standing: Mutex::new(Standing::new()),
             change: Condvar::new(),
             shutters: Mutex::new(Vec::new(alloc)),
@@ -98,7 +98,7 @@ impl Ending {
 
     /// Waits until the daemon is told something, for so long at most. One that has ended by itself
     /// is told to end.
-    pub fn await_call<R: Wait + Clock>(&self, rt: &R, patience: Duration) -> Call {
+    pub fn await_call<R: Wait + Clock>(&self, rt: &R, patience: Duration) -> Instruction {
         let standing = self.standing.lock(rt);
         let waits = |standing: &mut Standing| !standing.has_call();
         let (mut standing, _) = self

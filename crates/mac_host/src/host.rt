@@ -1,6 +1,6 @@
 //! A daemon as its servers have it.
 
-use crate::ending::Ending;
+use crate::ending::DaemonEnd;
 use crate::notices::Notices;
 use crate::numbers::Numbers;
 use crate::roster::Roster;
@@ -15,7 +15,7 @@ use std::time::Clock;
 /// its own socket, the memory of tokens, and the budget of what connections hold.
 #[derive(Drop)]
 pub struct Host {
-    ending: Arc<Ending, Global>,
+    ending: Arc<DaemonEnd, Global>,
     notices: Notices,
     numbers: Numbers,
     roster: Arc<Roster, Global>,
@@ -26,7 +26,7 @@ pub struct Host {
 impl Host {
     /// That of a daemon with these.
     pub fn new(
-        ending: Arc<Ending, Global>,
+        ending: Arc<DaemonEnd, Global>,
         notices: Notices,
         numbers: Numbers,
         roster: Arc<Roster, Global>,
@@ -47,7 +47,7 @@ impl Host {
     /// connections have so many bytes of memory together.
     pub fn alone<R: Wait + Clock>(rt: &R, alloc: Global, memory: u64) -> Result<Host, AllocError> {
         Ok(Host {
-            ending: Ending::new(alloc)?,
+            ending: DaemonEnd::new(alloc)?,
             notices: Notices::none(alloc),
             numbers: Numbers::begin(rt, alloc)?,
             roster: Roster::new(rt, alloc, 1, Vec::new(alloc))?,
@@ -69,7 +69,7 @@ impl Host {
     }
 
     /// How far the daemon is.
-    pub fn ending(&self) -> &Ending {
+    pub fn ending(&self) -> &DaemonEnd {
         &self.ending
     }
 

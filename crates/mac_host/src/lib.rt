@@ -10,6 +10,7 @@ mod clock;
 mod ending;
 mod exchange;
 mod host;
+mod limits;
 mod minted;
 mod notices;
 mod numbers;
@@ -20,14 +21,15 @@ mod traffic;
 
 pub use badge::{Badge, Life, Socket};
 pub use clock::{microseconds, microseconds_of};
-pub use ending::Ending;
+pub use ending::DaemonEnd;
 pub use exchange::{
     Exchange, Logged, LoggedReason, copy_identifier_of, copy_told_id, copy_told_identifier,
     copy_told_name,
 };
 pub use host::Host;
+pub use limits::{DISPLACING_MAX, DROPPED_MICROS, DROPPED_READS, REFUSED_MILLIS};
 pub use notices::{Beginning, HEAVY, Notices};
 pub use numbers::Numbers;
 pub use roster::Roster;
-pub use standing::Call;
+pub use standing::Instruction;
 pub use traffic::Traffic;

@@ -5,7 +5,7 @@ use crate::clock::microseconds;
 use crate::exchange::{Exchange, Logged};
 use crate::minted::minted_fields;
 use crate::requested::request_fields;
-use mac_board::{ListNews, ListRefusal, News, Refusal};
+use mac_board::{KeyFileRefusal, ListNews, ListRefusal, News};
 use mac_log::{Fields, Key, Kind, Log, NoMemory, start_log};
 use std::alloc::Global;
 use std::fmt::Display;
@@ -181,7 +181,7 @@ impl Notices {
     }
 
     /// Tells a step that the system refused, and that is made again or left out.
-    pub fn tell_system<R: Wait + Clock>(&self, rt: &R, step: &str, fault: io::Error) {
+    pub fn tell_system<R: Wait + Clock, W: Display>(&self, rt: &R, step: &str, fault: &W) {
         let fields = system_fields(self.alloc, step, fault);
         self.post(rt, Kind::SystemFault, fields);
     }
@@ -291,7 +291,7 @@ fn limit_fields(alloc: Global, limit: &str, most: u64) -> Result<Fields, NoMemor
         .with_number(alloc, Key::Connections, most)
 }
 
-fn system_fields(alloc: Global, step: &str, fault: io::Error) -> Result<Fields, NoMemory> {
+fn system_fields<W: Display>(alloc: Global, step: &str, fault: &W) -> Result<Fields, NoMemory> {
     let why = format!(in alloc; "{step}: {fault}")?;
     Fields::new(alloc).with_text(Key::Fault, why.as_bytes())
 }
@@ -302,7 +302,7 @@ fn taken_fields(alloc: Global, file: &str, names: usize) -> Result<Fields, NoMem
         .with_number(alloc, Key::Names, names as u64)
 }
 
-fn refused_fields(alloc: Global, file: &str, why: Refusal) -> Result<Fields, NoMemory> {
+fn refused_fields(alloc: Global, file: &str, why: KeyFileRefusal) -> Result<Fields, NoMemory> {
     let why = why.to_string(alloc)?;
     Fields::new(alloc)
         .with_text(Key::File, file.as_bytes())?

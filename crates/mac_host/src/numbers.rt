@@ -2,7 +2,7 @@
 
 use crate::traffic::Traffic;
 use mac_board::{ListNews, Moments, News};
-use mac_count::{Counters, Number, REQUESTS, Request, Snapshot};
+use mac_count::{AnsweredRequest, Counters, Number, REQUESTS, Snapshot};
 use mac_system::SystemMoments;
 use std::alloc::{AllocError, Global};
 use std::sync::Arc;
@@ -74,7 +74,7 @@ impl Numbers {
 
     /// A connection waits for a worker no more, for which it did so many microseconds. What it has
     /// had answered then, if anything.
-    pub fn count_narrowed(&self, answered: Option<Request>, micros: u64) {
+    pub fn count_narrowed(&self, answered: Option<AnsweredRequest>, micros: u64) {
         self.counters.take(Number::ConnectionsWide, 1);
         self.counters.add(Number::ConnectionsPlain, 1);
         if let Some(request) = answered {
@@ -94,7 +94,7 @@ impl Numbers {
     }
 
     /// A request was answered over HTTP, which took so many microseconds.
-    pub fn count_request(&self, request: Request, micros: u64) {
+    pub fn count_request(&self, request: AnsweredRequest, micros: u64) {
         self.counters.answered(request, micros);
     }
 

@@ -3,11 +3,11 @@
 ghost use Rattle.std.specs.Prelude.{◌≡◌, ◌↔◌, ◌⊎◌, ◌<◌, ◌+◌, ◌-◌, ◌^◌, if◌then◌else◌, min, true, false};
 ghost use Rattle.std.specs.Prelude.{IsFalse, IsTrue};
 ghost use Rattle.mac_host.specs.Standing.{IsEmpty, IsEnding};
-ghost use Rattle.mac_host.specs.declared.standing.Call.TheVariants.{Nothing, Look, End};
+ghost use Rattle.mac_host.specs.declared.standing.Instruction.TheVariants.{Nothing, Look, End};
 
 /// What a daemon is told.
 #[derive(Clone, Copy, Debug, PartialEq, Eq)]
-pub enum Call {
+pub enum Instruction {
     /// Nothing yet.
     Nothing,
     /// To look at once at what it looks at now and then.
@@ -79,18 +79,22 @@ impl Standing {
     }
 
     /// What the daemon was told. It hears once of each look.
-    pub fn hear(&mut self) -> Call
+    pub fn hear(&mut self) -> Instruction
         ensures ending { IsEnding self.old → (result ≡ End) × (self.new ≡ self.old) }
         ensures looking { ¬ IsEnding self.old
             → (result ≡ (if self.old.looks then Look else Nothing))
             × (self.new ≡ record self.old { looks = false }) }
     {
         if self.is_ending() {
-            return Call::End;
+            return Instruction::End;
         }
         let looks = self.looks;
         self.looks = false;
-        if looks { Call::Look } else { Call::Nothing }
+        if looks {
+            Instruction::Look
+        } else {
+            Instruction::Nothing
+        }
     }
 
     /// The daemon is told to end.

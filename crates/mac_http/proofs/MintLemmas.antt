@@ -6,7 +6,7 @@ use Rattle.http.specs.declared.request.Request.{Request}
 use Rattle.http_server.specs.declared.response.Response.{Response}
 use Rattle.http_server.specs.Response.{IsResponse}
 use Rattle.http_uri.specs.Uri.{uri_path}
-use Rattle.mac_calls.specs.declared.answering.Outcome.TheVariants.{NoKey}
+use Rattle.mac_calls.specs.declared.answering.CallOutcome.TheVariants.{NoKey}
 use Rattle.mac_calls.specs.declared.call.Call.{Call}
 use Rattle.mac_calls.specs.declared.call.Call.TheVariants.{Mint}
 use Rattle.mac_calls.specs.Outcome.{outcome_of}

@@ -6,8 +6,8 @@ use Rattle.http1.specs.Fields.{Header}
 use Rattle.http_server.specs.declared.response.Response.{Response}
 use Rattle.http_server.specs.Response.{IsResponse}
 use Rattle.mac_calls.specs.Outcome.{outcome_of}
-use Rattle.mac_calls.specs.declared.answering.Outcome.{Outcome}
-use Rattle.mac_calls.specs.declared.answering.Outcome.TheVariants.{NoKey, Minted, Reply, Refused}
+use Rattle.mac_calls.specs.declared.answering.CallOutcome.{CallOutcome}
+use Rattle.mac_calls.specs.declared.answering.CallOutcome.TheVariants.{NoKey, Minted, Reply, Refused}
 use Rattle.mac_calls.specs.declared.call.Call.{Call}
 use Rattle.mac_calls.specs.declared.call.Call.TheVariants.{Mint, Attenuate, Inspect, Check}
 use Rattle.mac_decide.specs.Terms.{is_allowed}
@@ -38,7 +38,7 @@ told_moment moment = unwrap_or moment 0
 
 -- what comes of a call with these random bytes: a mint under a name that may not be used is one of a
 -- name without keys
-abbrev pub allowed_outcome : Rules → Table → Option ℕ → Call × List ℕ → List ℕ → List ℕ → Outcome
+abbrev pub allowed_outcome : Rules → Table → Option ℕ → Call × List ℕ → List ℕ → List ℕ → CallOutcome
 allowed_outcome rules table moment asked drawn body =
     if may_use rules.rights.now.names asked.0 asked.1
     then outcome_of table (told_moment moment) asked.1 asked.0 drawn body else NoKey
@@ -64,19 +64,19 @@ abbrev pub takes_post : List Header
 takes_post = (codes "allow", codes "POST") ∷ []
 
 -- the response that tells what came of a call
-abbrev pub TellsOutcome : Outcome → Response → Type 0
+abbrev pub TellsOutcome : CallOutcome → Response → Type 0
 TellsOutcome NoKey = IsResponse 404 [] []
 TellsOutcome (Minted json identifier) = IsResponse 200 is_json json
 TellsOutcome (Reply json) = IsResponse 200 is_json json
 TellsOutcome (Refused json why) = IsResponse 400 is_json json
 
 -- the same, if the method is POST
-abbrev pub TellsCall : Bool → Outcome → Response → Type 0
+abbrev pub TellsCall : Bool → CallOutcome → Response → Type 0
 TellsCall true o = TellsOutcome o
 TellsCall false o = IsResponse 405 takes_post []
 
 -- the same, unless the call is refused before by a status
-abbrev pub TellsUnlessRefused : Option ℕ → Bool → Outcome → Response → Type 0
+abbrev pub TellsUnlessRefused : Option ℕ → Bool → CallOutcome → Response → Type 0
 TellsUnlessRefused (Some status) is_post o = IsResponse status [] []
 TellsUnlessRefused None is_post o = TellsCall is_post o
 
@@ -99,19 +99,19 @@ RespondsToCall table rules moment asked request response = ((drawn : List ℕ) �
     ⊎ IsOverloaded response
 
 -- what came of a call, if the method is POST
-abbrev pub outcome_by_post : Bool → Outcome → Option Outcome
+abbrev pub outcome_by_post : Bool → CallOutcome → Option CallOutcome
 outcome_by_post true o = Some o
 outcome_by_post false o = None
 
 -- the same, unless the call is refused before by a status
-abbrev pub outcome_unless_refused : Option ℕ → Bool → Outcome → Option Outcome
+abbrev pub outcome_unless_refused : Option ℕ → Bool → CallOutcome → Option CallOutcome
 outcome_unless_refused (Some status) is_post o = None
 outcome_unless_refused None is_post o = outcome_by_post is_post o
 
 -- the response tells what came of the call, and whoever notes it is told that; or the response tells
 -- that there was no memory, and nothing is noted
 abbrev pub NotesOutcome : List ℕ → Table → Rules → Option ℕ → Call × List ℕ → Request (List ℕ)
-    → Response → Option Outcome → Type 0
+    → Response → Option CallOutcome → Type 0
 NotesOutcome drawn table rules moment asked request response noted =
     let refused = refusal_of rules.way (head_of request) in
     let is_post = bytes_eq (head_of request).method (codes "POST") in
@@ -122,6 +122,6 @@ NotesOutcome drawn table rules moment asked request response noted =
 
 -- the same with some random bytes
 abbrev pub NotesCall : Table → Rules → Option ℕ → Call × List ℕ → Request (List ℕ) → Response
-    → Option Outcome → Type 0
+    → Option CallOutcome → Type 0
 NotesCall table rules moment asked request response noted =
     (drawn : List ℕ) × NotesOutcome drawn table rules moment asked request response noted

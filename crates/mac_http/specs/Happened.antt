@@ -8,7 +8,7 @@ use Rattle.http_uri.specs.Uri.{uri_path}
 use Rattle.mac_calls.specs.declared.call.Call.{Call}
 use Rattle.mac_keys.specs.KeyTable.{Table}
 use Rattle.mac_http.specs.declared.happened.Happened.{Happened}
-use Rattle.mac_http.specs.declared.happened.Happened.TheVariants.{Told, Called, Judged}
+use Rattle.mac_http.specs.declared.happened.Happened.TheVariants.{PageTold, Called, Judged}
 use Rattle.mac_http.specs.declared.noted.Noted.{Noted}
 use Rattle.mac_http.specs.declared.page.Page.{Page}
 use Rattle.mac_http.specs.declared.rules.Rules.{Rules}
@@ -22,7 +22,7 @@ use Rattle.mac_http.specs.Saying.{NotesJudged}
 -- answered, or the path was judged, and what came of that is what the response tells
 abbrev pub HappensAt : Option (Call × List ℕ) → Table → Rules → Option ℕ → Request (List ℕ)
     → Response → Happened → Type 0
-HappensAt call table rules moment request response Told = ⊥
+HappensAt call table rules moment request response PageTold = ⊥
 HappensAt call table rules moment request response (Called asked outcome) =
     (call ≡ Some (asked.call, asked.name.now))
     × NotesCall table rules moment (asked.call, asked.name.now) request response outcome
@@ -39,7 +39,7 @@ HappensPlainly table rules moment request =
 -- what happened at a path that names this page, or none
 abbrev pub HappensBy : Option Page → Table → Rules → Option ℕ → Request (List ℕ) → Response
     → Happened → Type 0
-HappensBy (Some page) table rules moment request response happened = happened ≡ Told
+HappensBy (Some page) table rules moment request response happened = happened ≡ PageTold
 HappensBy None table rules moment request response happened =
     HappensPlainly table rules moment request response happened
 
@@ -50,13 +50,13 @@ Happens table rules moment request =
 
 -- what is noted, if anything is, of what happened to a request with this head and status
 abbrev pub IsNoteOf : Happened → Parts → ℕ → Option Noted → Type 0
-IsNoteOf Told head status noted = noted ≡ None
+IsNoteOf PageTold head status noted = noted ≡ None
 IsNoteOf (Called asked outcome) head status noted =
     IsSomeAnd noted (IsNoteOfCall (asked.call, asked.name.now) outcome head status)
 IsNoteOf (Judged judged) head status noted = IsSomeAnd noted (IsNoteOfPath judged head status)
 
 -- how many notes are made of what happened: one, but none of a page
 abbrev pub notes_in : Happened → ℕ
-notes_in Told = 0
+notes_in PageTold = 0
 notes_in (Called asked outcome) = 1
 notes_in (Judged judged) = 1

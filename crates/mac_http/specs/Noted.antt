@@ -6,7 +6,7 @@ use Rattle.http_uri.specs.Uri.{uri_path}
 use Rattle.mac_calls.specs.declared.call.Call.{Call}
 use Rattle.mac_calls.specs.declared.call.Call.TheVariants as call
 use Rattle.mac_calls.specs.Outcome.{minted_identifier}
-use Rattle.mac_calls.specs.declared.answering.Outcome.{Outcome}
+use Rattle.mac_calls.specs.declared.answering.CallOutcome.{CallOutcome}
 use Rattle.mac_decide.specs.Answer.{keys_of}
 use Rattle.mac_decide.specs.Minted.{Minted}
 use Rattle.mac_keys.specs.KeyTable.{Table}
@@ -66,7 +66,7 @@ pub record IsSignedBy (table : Table) (rules : Rules) (moment : Option ℕ) (hea
   pub minted : Minted (listed keys) token
 
 -- what is noted of a call, of which this came, where the response tells that
-pub record IsNoteOfCall (asked : Call × List ℕ) (outcome : Option Outcome) (head : Parts)
+pub record IsNoteOfCall (asked : Call × List ℕ) (outcome : Option CallOutcome) (head : Parts)
     (answered : ℕ) (noted : Noted) : Type 0 where
   pub asks : noted.asks ≡ asks_of asked.0
   pub name : noted.name.now ≡ asked.1

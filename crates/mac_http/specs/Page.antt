@@ -5,8 +5,8 @@ use Rattle.http_server.specs.declared.response.Response.{Response}
 use Rattle.http_server.specs.Response.{IsResponse}
 use Rattle.mac_http.specs.declared.page.Page.{Page}
 use Rattle.mac_http.specs.declared.page.Page.TheVariants.{Connections, Health, Numbers, Status, Uses}
-use Rattle.mac_http.specs.declared.page.Told.{Told}
-use Rattle.mac_http.specs.declared.page.Told.TheVariants.{Unwell, Well}
+use Rattle.mac_http.specs.declared.page.PageTold.{PageTold}
+use Rattle.mac_http.specs.declared.page.PageTold.TheVariants.{Unwell, Well}
 use Rattle.mac_keys.specs.KeyTable.{Table}
 use Rattle.mac_http.specs.declared.rules.Pages.{Pages}
 use Rattle.mac_http.specs.declared.rules.Pages.TheVariants as pages
@@ -59,17 +59,17 @@ abbrev pub TellsPage : Pages → Page → Response → Type 0
 TellsPage pages page response = TellsIf (has_page pages page) page response
 
 -- the status of a page that tells that the daemon is well, or isn't
-abbrev pub told_status : Told → ℕ
+abbrev pub told_status : PageTold → ℕ
 told_status Well = 200
 told_status Unwell = 503
 
 -- what a daemon may say on a page that may tell of these keys: a text, and whether it is well
 abbrev pub Saying : Type 1
-Saying = Page → Option Table → List ℕ → Told → Type 0
+Saying = Page → Option Table → List ℕ → PageTold → Type 0
 
 -- the response is what the daemon says of a page, under the status of a daemon that is well or isn't
 abbrev pub Shows : Saying → Page → Option Table → Response → Type 0
-Shows says page keys response = (text : List ℕ) × (told : Told) × says page keys text told
+Shows says page keys response = (text : List ℕ) × (told : PageTold) × says page keys text told
     × IsResponse (told_status told) is_text text response
 
 -- the same of a page that is there

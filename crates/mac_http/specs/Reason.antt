@@ -1,7 +1,7 @@
 -- Why a request isn't granted or done, for who counts and logs it (this project's own).
 use Rattle.std.specs.Prelude.{Bool, true, false, Option, Some, None, option_map}
 use Rattle.mac_calls.specs.Outcome.{wire_refusal}
-use Rattle.mac_calls.specs.declared.answering.Outcome.{Outcome}
+use Rattle.mac_calls.specs.declared.answering.CallOutcome.{CallOutcome}
 use Rattle.mac_wire.specs.declared.reply.Refusal.TheVariants as refusal
 use Rattle.mac_http.specs.declared.finding.Finding.{Finding}
 use Rattle.mac_http.specs.declared.finding.Finding.TheVariants as found
@@ -39,5 +39,5 @@ abbrev pub nothing_judged : Judged
 nothing_judged = record { reason = None; is_signed = false }
 
 -- the refusal that came of a call, if one came
-abbrev pub reason_of_call : Outcome → Option Reason
+abbrev pub reason_of_call : CallOutcome → Option Reason
 reason_of_call outcome = option_map Refused (wire_refusal outcome)

@@ -1,14 +1,19 @@
 -- What turns of a connection do.
-use Rattle.std.specs.Prelude.{◌≡◌, ℕ, ◌+◌, ◌<◌, ◌⊎◌, Bool, if◌then◌else◌, List, [], ◌∷◌, ◌++◌, length, count_by, Option}
+use Rattle.std.specs.Prelude.{◌≡◌, ℕ, ◌+◌, ◌<◌, ◌⊎◌, Bool, if◌then◌else◌, List, [], ◌∷◌, ◌++◌, length, count_by, Option, Some}
 use Rattle.std.specs.Io.KnownBytes.{Appends, Consumes}
+use Rattle.http.specs.Request.{head_of}
 use Rattle.http.specs.declared.request.Request.{Request}
 use Rattle.http_server.specs.Connection.{config_of, history}
 use Rattle.http_server.specs.Exchange.{Call, Calls}
 use Rattle.http_server.specs.declared.connection.Connection.{Connection}
 use Rattle.http_server.specs.declared.response.Response.{Response}
+use Rattle.http_uri.specs.Uri.{uri_path}
 use Rattle.mac_board.specs.Follows.{IsUp, Looks}
 use Rattle.mac_keys.specs.KeyTable.{Table}
-use Rattle.mac_http.specs.Faced.{FaceState, IsRight, is_noted}
+use Rattle.mac_http.specs.Faced.{FaceState, IsRight, MayClose, is_noted}
+use Rattle.mac_http.specs.Page.{Saying, ShowsIf, has_page, page_in, told_keys}
+use Rattle.mac_http.specs.declared.page.Page.{Page}
+use Rattle.mac_http.specs.declared.rules.Rules.{Rules}
 
 -- Between the first connection and the second these bytes were read and written, and these calls
 -- were made of the service, which lead it from one state to the other.
@@ -45,6 +50,15 @@ pub record AnswersOnce {S : Type 0} (tells : Bool) (state : S → FaceState) (ol
   pub told : (state new).told ≡ (state old).told ++ under.1 ∷ []
   pub right : IsRight (state old).rules under (request, response)
   pub noted : (state new).noted ≡ (state old).noted + notes_of request
+
+-- The response to a request whose path names a page is what the daemon says of that page, where the
+-- face has it; it may tell besides that the connection is closed.
+abbrev pub SaysPage : Saying → Rules → Table → Request (List ℕ) → Response → Type 0
+SaysPage says rules table request response = (page : Page)
+    → page_in (uri_path (head_of request).uri) ≡ Some page
+    → (plain : Response)
+    × ShowsIf (has_page rules.pages page) says page (told_keys rules.way table) plain
+    × MayClose plain response
 
 -- as many more were noted as there are requests whose path names no page among the calls that came
 -- to those before

@@ -17,7 +17,7 @@ use bytes::{BufMut, Bytes};
 use http::header::{ALLOW, CONTENT_TYPE, HeaderValue};
 use http::{Method, Request, StatusCode};
 use http_server::Response;
-use mac_calls::{Brought, Call, Outcome, answer};
+use mac_calls::{Brought, Call, CallOutcome, answer};
 use mac_decide::Rights;
 use std::alloc::{AllocError, Global};
 
@@ -33,7 +33,7 @@ const MINT: &[u8] = b"/mint/";
 
 /// A call that a path asks for.
 #[derive(Clone, Copy)]
-pub struct Asked<'a> {
+pub struct PathCall<'a> {
     /// The call.
     pub call: Call,
     /// The name of the key, empty where the call is about none.
@@ -43,33 +43,33 @@ pub struct Asked<'a> {
 /// A request that asks for a call, and what was drawn for it.
 #[derive(Clone, Copy)]
 pub(crate) struct Called<'a> {
-    pub(crate) asked: Asked<'a>,
+    pub(crate) asked: PathCall<'a>,
     pub(crate) request: &'a Request<Bytes>,
     pub(crate) drawn: &'a [u8; 16],
 }
 
 /// The call that a path asks for, where it is allowed.
-pub fn call_in(calls: Calls, path: &[u8]) -> Option<Asked<'_>>
+pub fn call_in(calls: Calls, path: &[u8]) -> Option<PathCall<'_>>
     ensures { option_map (λ asked. (asked.call, asked.name.now)) result ≡ call_in calls path.now }
 {
     if path == ATTENUATE && calls.attenuate {
-        Some(Asked {
+        Some(PathCall {
             call: Call::Attenuate,
             name: b"",
         })
     } else if path == INSPECT && calls.inspect {
-        Some(Asked {
+        Some(PathCall {
             call: Call::Inspect,
             name: b"",
         })
     } else if path == CHECK && calls.check {
-        Some(Asked {
+        Some(PathCall {
             call: Call::Check,
             name: b"",
         })
     } else if calls.mint {
         let name = path.strip_prefix(MINT)?;
-        Some(Asked {
+        Some(PathCall {
             call: Call::Mint,
             name,
         })
@@ -85,7 +85,7 @@ pub(crate) fn respond_to_call(
     footing: Footing<'_>,
     called: Called<'_>,
     response: &mut Response,
-) -> Option<Outcome>
+) -> Option<CallOutcome>
     requires { IsBlank response.old }
     ensures told { RespondsWith called.entry.drawn.now footing.entry.keys.now footing.entry.rules
         footing.entry.moment (called.entry.asked.call, called.entry.asked.name.now)
@@ -110,7 +110,7 @@ fn fill(
     footing: Footing<'_>,
     called: Called<'_>,
     response: &mut Response,
-) -> Result<Option<Outcome>, AllocError>
+) -> Result<Option<CallOutcome>, AllocError>
     requires { IsBlank response.old }
     ensures told { OnOk result (TellsUnlessRefused
         (refusal_of footing.entry.rules.way (head_of called.entry.request.now))
@@ -140,7 +140,7 @@ fn fill_unrefused(
     footing: Footing<'_>,
     called: Called<'_>,
     response: &mut Response,
-) -> Result<Option<Outcome>, AllocError>
+) -> Result<Option<CallOutcome>, AllocError>
     requires { IsBlank response.old }
     ensures told { OnOk result (TellsCall
         (bytes_eq (head_of called.entry.request.now).method (codes "POST"))
@@ -167,7 +167,7 @@ fn answer_allowed(
     alloc: Global,
     footing: Footing<'_>,
     called: Called<'_>,
-) -> Result<Outcome, AllocError>
+) -> Result<CallOutcome, AllocError>
     ensures { IfOk result (λ o. o ≡ allowed_outcome footing.entry.rules footing.entry.keys.now
         footing.entry.moment (called.entry.asked.call, called.entry.asked.name.now)
         called.entry.drawn.now
@@ -182,12 +182,12 @@ fn answer_allowed(
         };
         answer(alloc, footing.keys, asked.name, asked.call, brought)
     } else {
-        Ok(Outcome::NoKey)
+        Ok(CallOutcome::NoKey)
     }
 }
 
 /// Whether a call may use the keys of its name, where it uses any.
-fn may_use(rights: &Rights, asked: Asked<'_>) -> bool
+fn may_use(rights: &Rights, asked: PathCall<'_>) -> bool
     ensures { result ≡ may_use rights.now.names asked.entry.call asked.entry.name.now }
 {
     match asked.call {
@@ -206,18 +206,18 @@ fn refuse_method(response: &mut Response) -> Result<(), AllocError>
 }
 
 /// Fills a blank response with what came of a call.
-fn tell(outcome: &Outcome, response: &mut Response) -> Result<(), AllocError>
+fn tell(outcome: &CallOutcome, response: &mut Response) -> Result<(), AllocError>
     requires { IsBlank response.old }
     ensures { OnOk result (TellsOutcome outcome.now response.new) }
 {
     match outcome {
-        Outcome::NoKey => {
+        CallOutcome::NoKey => {
             response.status = StatusCode::NOT_FOUND;
             Ok(())
         }
-        Outcome::Minted { json, .. } => put_json(StatusCode::OK, json.as_slice(), response),
-        Outcome::Reply(json) => put_json(StatusCode::OK, json.as_slice(), response),
-        Outcome::Refused { json, .. } => {
+        CallOutcome::Minted { json, .. } => put_json(StatusCode::OK, json.as_slice(), response),
+        CallOutcome::Reply(json) => put_json(StatusCode::OK, json.as_slice(), response),
+        CallOutcome::Refused { json, .. } => {
             put_json(StatusCode::BAD_REQUEST, json.as_slice(), response)
         }
     }

@@ -1,13 +1,17 @@
 //! The service of connections.
 
-ghost use Rattle.std.specs.Prelude.{◌≡◌};
+ghost use Rattle.std.specs.Prelude.{◌≡◌, Some};
+ghost use Rattle.http.specs.Request.{head_of};
 ghost use Rattle.http_server.specs.Response.{IsBlank};
 ghost use Rattle.mac_http.specs.Calling.{NotesCall, RespondsToCall};
 ghost use Rattle.mac_http.specs.Faced.{IsAnswer, IsPlainAnswer};
 ghost use Rattle.mac_http.specs.Happened.{Happens, HappensPlainly};
-ghost use Rattle.mac_http.specs.Turn.{AnswersOnce};
+ghost use Rattle.mac_http.specs.Page.{ShowsIf, has_page, page_in, told_keys};
+ghost use Rattle.mac_http.specs.Turn.{AnswersOnce, SaysPage};
+ghost use Rattle.mac_http.specs.declared.page.Page.{Page as PlainPage};
+ghost use Rattle.http_uri.specs.Uri.{uri_path};
 
-use crate::calling::{Asked, Called, call_in, respond_to_call};
+use crate::calling::{Called, PathCall, call_in, respond_to_call};
 use crate::footing::Footing;
 use crate::happened::Happened;
 use crate::page::{Monitor, announce_close, page_in, tell_page};
@@ -17,7 +21,7 @@ use bytes::Bytes;
 use http::{Request, StatusCode};
 use http_server::{Response, Service};
 use mac_board::{Moments, Tables};
-use mac_calls::{Call, Outcome};
+use mac_calls::{Call, CallOutcome};
 use std::alloc::{AllocError, Global};
 
 /// Answers the requests of connections, each under the table that is up and at a moment that its
@@ -63,12 +67,13 @@ impl<'a, K, M: Drop, S: Drop> Face<'a, K, M, S> {
 }
 
 impl<'a, K: Tables, M: Moments, S: Monitor> Service for Face<'a, K, M, S> {
-    ghost answers = { AnswersOnce K.tells (λ face. record {
+    ghost answers = { λ face request response after. (once : AnswersOnce K.tells (λ face. record {
       known = K.known face.keys;
       rules = face.rules;
       told = M.told face.moments;
       noted = S.noted face.monitor;
-    }) };
+    }) face request response after)
+        × SaysPage (S.says face.monitor) face.rules once.under.0 request response };
 
     fn call(
         &mut self,
@@ -104,13 +109,16 @@ fn answer<'a, S: Monitor>(
     requires { IsBlank response.old }
     ensures told { IsAnswer footing.entry.keys.now footing.entry.rules footing.entry.moment
         request.now response.new }
+    ensures shows { (page : PlainPage) → page_in (uri_path (head_of request.now).uri) ≡ Some page
+        → ShowsIf (has_page footing.entry.rules.pages page) (S.says monitor.now) page
+        (told_keys footing.entry.rules.way footing.entry.keys.now) response.new }
     ensures happened { Happens footing.entry.keys.now footing.entry.rules footing.entry.moment
         request.now response.new result }
 {
     match page_in(request.uri().path().as_bytes()) {
         Some(page) => {
             tell_page(alloc, footing, monitor, page, response);
-            Happened::Told
+            Happened::PageTold
         }
         None => answer_plain(alloc, footing, monitor, request, response),
     }
@@ -149,10 +157,10 @@ fn answer_call<S: Monitor>(
     alloc: Global,
     footing: Footing<'_>,
     monitor: &S,
-    asked: Asked<'_>,
+    asked: PathCall<'_>,
     request: &Request<Bytes>,
     response: &mut Response,
-) -> Option<Outcome>
+) -> Option<CallOutcome>
     requires { IsBlank response.old }
     ensures told { RespondsToCall footing.entry.keys.now footing.entry.rules footing.entry.moment
         (asked.entry.call, asked.entry.name.now) request.now response.new }

@@ -4,22 +4,22 @@ ghost use Rattle.std.specs.Prelude.{◌≡◌, ◌+◌};
 ghost use Rattle.http.specs.Request.{head_of};
 ghost use Rattle.mac_http.specs.Happened.{IsNoteOf, notes_in};
 
-use crate::calling::Asked;
+use crate::calling::PathCall;
 use crate::noted::{Noted, note_of_call, note_of_path};
 use crate::page::Monitor;
 use crate::reason::Judged;
 use bytes::Bytes;
 use http::Request;
 use http_server::Response;
-use mac_calls::Outcome;
+use mac_calls::CallOutcome;
 
 /// What happened where a request was answered.
 #[derive(Drop)]
 pub(crate) enum Happened<'a> {
     /// A page was told.
-    Told,
+    PageTold,
     /// A call was answered, of which this came, where the response tells that.
-    Called(Asked<'a>, Option<Outcome>),
+    Called(PathCall<'a>, Option<CallOutcome>),
     /// A path was judged.
     Judged(Judged),
 }
@@ -44,7 +44,7 @@ impl Happened<'_> {
         ensures { IsNoteOf self.now (head_of request.now) response.now.status result }
     {
         match self {
-            Happened::Told => None,
+            Happened::PageTold => None,
             Happened::Called(asked, outcome) => {
                 Some(note_of_call(*asked, request, outcome.as_ref(), response))
             }

@@ -30,12 +30,12 @@ mod target;
 
 pub use attending::{CONFIG, take_turn};
 pub use authorization::Scheme;
-pub use calling::{Asked, call_in};
+pub use calling::{PathCall, call_in};
 pub use face::Face;
 pub use finding::{Finding, find};
 pub use footing::Footing;
 pub use noted::{Asks, Noted};
-pub use page::{Monitor, Page, Told};
+pub use page::{Monitor, Page, PageTold};
 pub use path::{PATH_MAX, SEGMENTS_MAX};
 pub use reason::{Judged, Reason};
 pub use rules::{Calls, Granted, Pages, Rules, Sources, Way};

@@ -6,13 +6,13 @@ ghost use Rattle.mac_http.specs.Noted.{IsNoteOfCall, IsNoteOfPath, id_in, signed
 
 use crate::authorization::credentials_in;
 use crate::browsing::only_value;
-use crate::calling::Asked;
+use crate::calling::PathCall;
 use crate::reason::{Judged, Reason, reason_of_call};
 use crate::target::target_in;
 use bytes::Bytes;
 use http::{Request, StatusCode};
 use http_server::Response;
-use mac_calls::{Call, Outcome};
+use mac_calls::{Call, CallOutcome};
 
 /// The name of the field by which gateways tell their requests apart.
 const ID: &str = "x-request-id";
@@ -53,9 +53,9 @@ pub struct Noted<'a> {
 
 /// That of a call, of which this came, if it was made, and that has this response.
 pub(crate) fn note_of_call<'a>(
-    asked: Asked<'a>,
+    asked: PathCall<'a>,
     request: &'a Request<Bytes>,
-    outcome: Option<&'a Outcome>,
+    outcome: Option<&'a CallOutcome>,
     response: &Response,
 ) -> Noted<'a>
     ensures { IsNoteOfCall (asked.entry.call, asked.entry.name.now) (option_copied outcome.entry)

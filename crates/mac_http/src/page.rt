@@ -7,7 +7,7 @@ ghost use Rattle.mac_http.specs.Faced.{MayClose};
 ghost use Rattle.mac_http.specs.Page.{IsText, Shows, ShowsIf, TellsPage, has_page, is_text};
 ghost use Rattle.mac_http.specs.Page.{page_in, told_keys, told_status};
 ghost use Rattle.mac_http.specs.declared.page.Page.{Page as PlainPage};
-ghost use Rattle.mac_http.specs.declared.page.Told.{Told as PlainTold};
+ghost use Rattle.mac_http.specs.declared.page.PageTold.{PageTold as PlainTold};
 ghost use Rattle.mac_keys.specs.KeyTable.{Table};
 
 use crate::footing::Footing;
@@ -49,7 +49,7 @@ pub enum Page {
 
 /// What a page tells.
 #[derive(Clone, Copy, Debug, PartialEq, Eq)]
-pub enum Told {
+pub enum PageTold {
     /// The text of a daemon that is well.
     Well,
     /// The text of one that is not, which its health alone tells.
@@ -77,11 +77,11 @@ pub trait Monitor: Draws {
         page: Page,
         keys: Option<&KeyTable>,
         text: &mut Vec<u8>,
-    ) -> Result<Told, AllocError>
+    ) -> Result<PageTold, AllocError>
         ensures says { IfOk result (λ told. (more : List ℕ)
             × (text.new.items ≡ text.old.items ++ more)
             × says self.now page (option_copied keys.entry) more told) }
-        ensures unwell { result ≡ Ok Told.Unwell → page ≡ Page.Health };
+        ensures unwell { result ≡ Ok PageTold.Unwell → page ≡ Page.Health };
 
     /// A request for anything but a page was answered.
     fn note(&mut self, request: &Noted<'_>)
@@ -148,12 +148,12 @@ fn fill_page<S: Monitor>(
 }
 
 /// The status of a page that tells that the daemon is well, or isn't.
-fn told_status(told: Told) -> StatusCode
+fn told_status(told: PageTold) -> StatusCode
     ensures { result ≡ told_status told }
 {
     match told {
-        Told::Well => StatusCode::OK,
-        Told::Unwell => StatusCode::SERVICE_UNAVAILABLE,
+        PageTold::Well => StatusCode::OK,
+        PageTold::Unwell => StatusCode::SERVICE_UNAVAILABLE,
     }
 }
 

@@ -4,7 +4,7 @@ ghost use Rattle.std.specs.Prelude.{◌≡◌};
 ghost use Rattle.mac_http.specs.Reason.{is_signed, judged_by, reason_found, reason_of_call};
 
 use crate::finding::Finding;
-use mac_calls::Outcome;
+use mac_calls::CallOutcome;
 use mac_wire::Refusal;
 
 /// Why a request isn't granted or done, for who counts and logs requests. A response tells no more
@@ -71,7 +71,7 @@ fn reason_found(finding: &Finding) -> Option<Reason>
 }
 
 /// The reason in what came of a call.
-pub(crate) fn reason_of_call(outcome: &Outcome) -> Option<Reason>
+pub(crate) fn reason_of_call(outcome: &CallOutcome) -> Option<Reason>
     ensures { result ≡ reason_of_call outcome.now }
 {
     match outcome.refusal() {

@@ -6,7 +6,7 @@ ghost use Rattle.mac_log.specs.Quota.{is_owing};
 
 use crate::kind::{KINDS, Kind};
 use crate::quota::Quota;
-use mac_mail::History;
+use mac_queue::History;
 
 /// Lines of a kind, as they were taken or printed.
 #[derive(Clone, Copy, Debug, PartialEq, Eq)]

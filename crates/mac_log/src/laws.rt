@@ -64,7 +64,7 @@ pub fn at_most_ten_a_second()
         quota.printed + printed_count quota moments ≤ LINES_MAX }
 {}
 
-/// Each line is printed or counted, and each that is counted is told once.
+/// By its quota each line of a kind is printed or counted, and each that is counted is told once.
 pub fn no_line_is_lost()
     ensures { (quota : Quota) → (moments : List ℕ) →
         quota.left_out + length moments < 2 ^ 64 →

@@ -9,7 +9,7 @@ use crate::fields::Fields;
 use crate::kind::{KINDS, Kind};
 use crate::line::Line;
 use crossbeam_queue::ArrayQueue;
-use mac_mail::{Bell, History};
+use mac_queue::{Bell, History};
 use std::alloc::Global;
 use std::sync::Wait;
 use std::sync::atomic::AtomicU64;

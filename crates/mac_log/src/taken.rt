@@ -7,7 +7,7 @@ use crate::books::KindLines;
 use crate::kind::Kind;
 use crate::line::Line;
 use crate::log::Log;
-use mac_mail::History;
+use mac_queue::History;
 use std::alloc::Global;
 use std::sync::{Arc, Wait};
 use std::time::Clock;

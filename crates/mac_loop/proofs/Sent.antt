@@ -35,7 +35,7 @@ use Rattle.mac_loop.specs.contracts.register.Register as Register
 use Rattle.mac_loop.specs.contracts.roll.Roll as Roll
 use Rattle.mac_plain.proofs.client.Client.TheSendSync as client
 use Rattle.mac_plain.proofs.round.Round.TheSendSync as round
-use Rattle.mac_sockets.proofs.account.Account.TheSendSync as account
+use Rattle.mac_sockets.proofs.account.BudgetAccount.TheSendSync as account
 use Rattle.mac_sockets.proofs.connections.Connections.TheSendSync as connections
 use Rattle.mac_sockets.proofs.inbox.Inbox.TheSendSync as inbox
 use Rattle.mac_sockets.proofs.stream.Stream.TheSendSync as stream

@@ -6,6 +6,7 @@ pub mod Batch
 pub mod Gone
 pub mod Leaf
 pub mod Ledger
+pub mod Made
 pub mod Minted
 pub mod NoLedger
 pub mod Nobody

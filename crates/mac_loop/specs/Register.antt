@@ -41,12 +41,12 @@ module _ {O : Type 0} {origin : Ghosts O} where
     pub came_is : came register ≡ []
     pub went_is : went register ≡ []
 
-  -- unchanged, but that it stands for so many threads more
-  pub record StandsForMore (before : Register O origin) (more : ℕ) (after : Register O origin) : Type 0 where
-    pub ledger : after.ledger ≡ before.ledger
-    pub parts_are : parts after ≡ parts before + more
-    pub came_is : came after ≡ came before
-    pub went_is : went after ≡ went before
+  -- the second one stands for so many threads more than the first, and tells the same
+  pub record StandsForMore (few : Register O origin) (more : ℕ) (many : Register O origin) : Type 0 where
+    pub ledger : many.ledger ≡ few.ledger
+    pub parts_are : parts many ≡ parts few + more
+    pub came_is : came many ≡ came few
+    pub went_is : went many ≡ went few
 
   -- one more was admitted
   pub record HasAdmitted (before : Register O origin) (one : Admitted) (after : Register O origin) : Type 0 where

@@ -1,7 +1,7 @@
 -- How many clients a loop has, and how much is unsent on them: a connection is one value, so none is
 -- counted twice.
-use Rattle.std.specs.Prelude.{ℕ, ◌+◌, Option, None, Some, length, option_to_list, sum_by}
-use Rattle.mac_slots.specs.Slots.{Slots}
+use Rattle.std.specs.Prelude.{◌≡◌, ◌≢◌, ℕ, ◌+◌, List, Option, None, Some, length, map, option_to_list, sum_by}
+use Rattle.mac_slots.specs.Slots.{Slots, at}
 use Rattle.mac_sockets.specs.Connections.{count_held, weighed}
 use Rattle.mac_loop.specs.declared.batch.Batch.{Batch}
 use Rattle.mac_loop.specs.declared.handover.Handover.{Handover}
@@ -14,12 +14,16 @@ module _ {O : Type 0} {origin : Ghosts O} where
   abbrev pub count_batch : Batch O origin → ℕ
   count_batch batch = length batch.clients.items
 
+  -- the slots that these are out of, the last one last
+  abbrev pub slots_of : Batch O origin → List ℕ
+  slots_of batch = map (λ lent. lent.slot) batch.lent.items
+
   -- how many clients there are: in slots, in a turn, and on the way to a slot
   abbrev pub count_there : Slots (Member O origin) → Batch O origin → Option (Handover O origin) → ℕ
   count_there slots batch newcomer =
       count_held slots + count_batch batch + length (option_to_list newcomer)
 
-  -- the same of what a slot holds
+  -- how many bytes are unsent on what a slot holds
   abbrev pub unsent_of : Member O origin → ℕ
   unsent_of member = unsent_on member.client
 
@@ -40,3 +44,7 @@ module _ {O : Type 0} {origin : Ghosts O} where
   abbrev pub unsent_there : Slots (Member O origin) → Batch O origin → Option (Handover O origin) → ℕ
   unsent_there slots batch newcomer =
       unsent_held slots + unsent_batch batch + unsent_coming newcomer
+
+  -- every slot but this one is what it was
+  abbrev pub OthersStay : ℕ → Slots (Member O origin) → Slots (Member O origin) → Type 0
+  OthersStay slot old new = (other : ℕ) → other ≢ slot → at new other ≡ at old other

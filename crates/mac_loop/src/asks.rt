@@ -5,7 +5,7 @@ ghost use Rattle.std.specs.Prelude.{◌≡◌};
 ghost use Rattle.mac_loop.specs.Asks.{home_of};
 
 use crate::socket_queues::SocketQueues;
-use mac_count::Request;
+use mac_count::AnsweredRequest;
 use mac_decide::{Job, Macaroons};
 use mac_host::Socket;
 use mac_order::Answer;
@@ -37,7 +37,7 @@ pub enum Delivered {
     /// It has had no answer of its own.
     Unanswered,
     /// It has its answer, which is counted so.
-    Answered(Request),
+    Answered(AnsweredRequest),
 }
 
 /// What came of a job: the answer, or none for want of memory.

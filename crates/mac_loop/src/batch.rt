@@ -1,7 +1,7 @@
 //! The clients of a turn, out of their slots.
 
-ghost use Rattle.std.specs.Prelude.{◌≡◌, ◌+◌, All, IfNone, IfOk, IsTrue, OnErr, OnOk};
-ghost use Rattle.std.specs.Prelude.{OnSome, map, sum_by};
+ghost use Rattle.std.specs.Prelude.{◌≡◌, ◌+◌, ◌++◌, ◌∷◌, [], All, IfNone, IfOk, IfSome, IsTrue};
+ghost use Rattle.std.specs.Prelude.{OnErr, OnOk, OnSome, map, sum_by};
 ghost use Rattle.mac_loop.specs.Alive.{IsAlive};
 ghost use Rattle.mac_loop.specs.Batch.{rights_lent, rights_of};
 ghost use Rattle.mac_loop.specs.Backlog.{rounded};
@@ -27,7 +27,7 @@ pub struct Batch<O: Origin> {
 }
 
 impl<O: Origin> Batch<O> {
-    ghost use Rattle.mac_loop.specs.Roll.{count_batch, unsent_batch};
+    ghost use Rattle.mac_loop.specs.Roll.{count_batch, slots_of, unsent_batch};
 
     /// None, with room for so many.
     pub fn with_capacity(alloc: Global, count: usize) -> Result<Batch<O>, AllocError>
@@ -57,6 +57,8 @@ impl<O: Origin> Batch<O> {
     pub fn push(&mut self, slot: usize, member: Member<O>) -> Result<(), Member<O>>
         ensures pushed { OnOk result (count_batch self.new ≡ count_batch self.old + 1) }
         ensures same { OnErr result (count_batch self.new ≡ count_batch self.old) }
+        ensures slot { OnOk result (slots_of self.new ≡ slots_of self.old ++ slot ∷ []) }
+        ensures slots { OnErr result (slots_of self.new ≡ slots_of self.old) }
     {
         let Member {
             client,
@@ -86,6 +88,8 @@ impl<O: Origin> Batch<O> {
     pub fn pop(&mut self) -> Option<(usize, Member<O>)>
         ensures none { IfNone result (count_batch self.new ≡ count_batch self.old) }
         ensures one { OnSome result (count_batch self.new + 1 ≡ count_batch self.old) }
+        ensures slot { IfSome result (λ last.
+            slots_of self.old ≡ slots_of self.new ++ last.0 ∷ []) }
     {
         let lent = self.lent.pop()?;
         let client = self.clients.pop()?;
@@ -100,7 +104,8 @@ impl<O: Origin> Batch<O> {
         terms: RoundTerms,
         outlook: &mut K,
     )
-        ensures { count_batch self.new ≡ count_batch self.old }
+        ensures count { count_batch self.new ≡ count_batch self.old }
+        ensures slots { slots_of self.new ≡ slots_of self.old }
     {
         let clients = self.clients.as_mut_slice();
         round.serve(rt, terms, outlook, clients);

@@ -1,15 +1,16 @@
 //! What loops share: where each gets clients from, how busy each is, and what is unsent on all.
 
-ghost use Rattle.std.specs.Prelude.{◌≡◌, ◌++◌, ◌∷◌, [], IfErr, IfNone, IfOk, IfSome};
+ghost use Rattle.std.specs.Prelude.{◌≡◌, ◌+◌, ◌++◌, ◌∷◌, [], IfErr, IfNone, IfOk, IfSome, OnOk};
+ghost use Rattle.mac_loop.specs.Made.{count_sides};
 ghost use Rattle.mac_loop.specs.Register.{who};
 
 use crate::backlog::Backlog;
 use crate::handover::Handover;
 use crate::meter::{Meter, Shares};
 use crate::register::Origin;
-use mac_host::{Badge, Socket};
-use mac_mail::History;
+use mac_host::{Badge, DISPLACING_MAX, Socket};
 use mac_plain::UNSENT_MAX;
+use mac_queue::History;
 use mac_sockets::{Inbox, REST_MIN};
 use std::alloc::{AllocError, Global};
 use std::sync::Wait;
@@ -33,9 +34,6 @@ pub const NEWCOMERS_MAX: usize = 64;
 
 /// How many milliseconds pass until it is looked again whether fewer wait.
 const PAUSE_MILLIS: u64 = 1;
-
-/// How many clients of a socket at most come into loops at a time in place of others.
-const DISPLACING_MAX: usize = 16;
 
 /// Since when the client of a loop has rested that rests longest of those that came in at a socket,
 /// as far as the loop looked; the greatest number where there is none.
@@ -129,7 +127,9 @@ pub struct Loops<O: Origin> {
 impl<O: Origin> Loops<O> {
     /// No loops yet, whose turns may be answered by several threads, or not, and whose clients have
     /// so many bytes of memory together.
-    pub fn new(alloc: Global, may_share: bool, memory: u64) -> Loops<O> {
+    pub fn new(alloc: Global, may_share: bool, memory: u64) -> Loops<O>
+        ensures { count_sides result ≡ 0 }
+    {
         Loops {
             sides: Vec::new(alloc),
             may_share,
@@ -143,7 +143,9 @@ impl<O: Origin> Loops<O> {
     }
 
     /// One loop more, which gets clients from this inbox.
-    pub fn push(&mut self, inbox: Inbox<Handover<O>>) -> Result<(), AllocError> {
+    pub fn push(&mut self, inbox: Inbox<Handover<O>>) -> Result<(), AllocError>
+        ensures { OnOk result (count_sides self.new ≡ count_sides self.old + 1) }
+    {
         self.sides.push(LoopSide {
             inbox,
             waiting: AtomicUsize::new(0),

@@ -25,7 +25,7 @@ use mac_decide::{Macaroons, SeenTokens};
 use mac_host::{microseconds, microseconds_of};
 use mac_plain::Round;
 use mac_queue::Desk;
-use mac_sockets::{Account, SharedBudget};
+use mac_sockets::{BudgetAccount, SharedBudget};
 pub use making::make_loops;
 use mio::Waker;
 use std::alloc::Global;
@@ -58,7 +58,7 @@ pub struct Loop<O: Origin> {
     parts: usize,
     shares: Shares,
     // What its clients have of the memory of all, and hold of it.
-    account: Account,
+    account: BudgetAccount,
     // How many bytes may be unsent in this turn on a client that is read.
     unsent_max: usize,
     // What other loops know of what is unsent on its clients.

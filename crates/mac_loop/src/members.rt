@@ -12,9 +12,9 @@ use crate::port::SocketPort;
 use crate::register::{Origin, Presence};
 use crate::watch::{PlainFault, Watch};
 use mac_board::{Current, Outlook};
-use mac_count::Request;
+use mac_count::AnsweredRequest;
 use mac_decide::{Job, Macaroons};
-use mac_host::{Badge, Life, Traffic};
+use mac_host::{Badge, DROPPED_MICROS, DROPPED_READS, Life, Traffic};
 use mac_order::Answer;
 use mac_plain::{Came, Client, Course, Round};
 use mac_sockets::{Holds, Readiness, Wakes};
@@ -55,14 +55,8 @@ pub struct Note {
     pub held: u64,
 }
 
-/// How many such reads there are at most.
-const DROPPED_READS: usize = 64;
-
-/// How many bytes each of them drops at most.
+/// How many bytes each read behind a frame that was too long drops at most.
 const DROPPED_PIECE: usize = 16_384;
-
-/// How many microseconds the peer has to end after the last of them.
-const DROPPED_MICROS: u64 = 100_000;
 
 /// What a slot of a loop holds: a client, of whom all that came and went on its socket is known.
 #[derive(Drop)]
@@ -225,7 +219,7 @@ impl<O: Origin> Member<O> {
         &mut self,
         round: &mut Round,
         answer: Option<Answer<Macaroons>>,
-    ) -> Option<Request> {
+    ) -> Option<AnsweredRequest> {
         match answer {
             Some(answer) => round.deliver(&mut self.client, answer),
             None => {

@@ -11,8 +11,7 @@ use crate::register::{Origin, Register};
 use crate::watch::Watch;
 use mac_decide::Macaroons;
 use mac_host::{Badge, Life};
-use mac_mail::History;
-use mac_queue::Desk;
+use mac_queue::{Desk, History};
 use std::sync::Wait;
 use std::time::Clock;
 

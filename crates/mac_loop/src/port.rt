@@ -5,8 +5,8 @@ ghost use Rattle.mac_plain.specs.Port.{FitsCame, FitsWent};
 
 use crate::transcript::Transcript;
 use mac_host::{Exchange, Traffic};
-use mac_mail::History;
 use mac_plain::{Came, Port, Went};
+use mac_queue::History;
 use mac_sockets::{Fresh, Stream};
 use std::alloc::AllocError;
 use std::cell::RefCell;

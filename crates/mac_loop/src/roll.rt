@@ -1,12 +1,14 @@
 //! The clients of a loop, and what became of each connection that it was given.
 
-ghost use Rattle.std.specs.Prelude.{◌≡◌, ◌+◌, ◌≤◌, IsTrue, OnErr, OnOk, length, option_to_list};
+ghost use Rattle.std.specs.Prelude.{◌≡◌, ◌+◌, ◌≤◌, ◌⊎◌, ◌++◌, ◌∷◌, [], IfSome, IsTrue, OnErr, OnOk};
+ghost use Rattle.std.specs.Prelude.{length, option_to_list};
 ghost use Rattle.mac_loop.specs.Backlog.{rounded};
 ghost use Rattle.mac_loop.specs.Gone.{HaveGone, count_gone};
 ghost use Rattle.mac_loop.specs.Register.{IsBegun};
 ghost use Rattle.mac_loop.specs.Roll.{count_there, unsent_coming, unsent_held};
 ghost use Rattle.mac_sockets.specs.Connections.{count_held};
 
+mod arriving;
 mod noting;
 
 use crate::backlog::Backlog;
@@ -21,8 +23,8 @@ use crate::watch::{PlainFault, Watch};
 use mac_board::Outlook;
 use mac_decide::Job;
 use mac_host::{Badge, Traffic};
-use mac_mail::History;
 use mac_plain::{Client, Round, RoundTerms};
+use mac_queue::History;
 use mac_slots::Slots;
 use mac_sockets::{Connections, Readiness, WaitFault};
 use mio::{Token, Waker};
@@ -74,7 +76,7 @@ pub struct Back {
 
 impl<O: Origin> Roll<O> {
     ghost use Rattle.mac_loop.specs.Nobody.{HasNobody};
-    ghost use Rattle.mac_loop.specs.Roll.{unsent_there};
+    ghost use Rattle.mac_loop.specs.Roll.{OthersStay, slots_of, unsent_there};
 
     /// No clients, with room for a turn of so many, and what ends the waits for them.
     pub fn new<R: Net>(
@@ -176,7 +178,11 @@ impl<O: Origin> Roll<O> {
     /// Takes the client of a slot into a turn, behind so many looks at how busy loops are. How many
     /// parts of the turn it takes: one, or `deep` of them where it has more to be read than a turn
     /// takes. Without memory it stays.
-    pub fn lend(&mut self, slot: usize, deep: usize, looks: u64) -> usize {
+    pub fn lend(&mut self, slot: usize, deep: usize, looks: u64) -> usize
+        ensures others { OthersStay slot self.old.connections.slots self.new.connections.slots }
+        ensures out { (slots_of self.new.batch ≡ slots_of self.old.batch)
+            ⊎ (slots_of self.new.batch ≡ slots_of self.old.batch ++ slot ∷ []) }
+    {
         let Some(mut member) = self.connections.slots.take(slot) else {
             return 0;
         };
@@ -209,7 +215,12 @@ impl<O: Origin> Roll<O> {
         round: &mut Round,
         outlook: &K,
         watch: &W,
-    ) -> Option<Back> {
+    ) -> Option<Back>
+        ensures last { IfSome result (λ back.
+            slots_of self.old.batch ≡ slots_of self.new.batch ++ back.slot ∷ []) }
+        ensures others { IfSome result (λ back. OthersStay back.slot
+            self.old.connections.slots self.new.connections.slots) }
+    {
         let (slot, mut member) = self.batch.pop()?;
         // What isn't told here a worker answers.
         member.recall(round, outlook.current());
@@ -237,7 +248,9 @@ impl<O: Origin> Roll<O> {
         watch: &W,
         slot: usize,
         fault: Option<PlainFault>,
-    ) {
+    )
+        ensures { OthersStay slot self.old.connections.slots self.new.connections.slots }
+    {
         if let Some(member) = self.connections.slots.release(slot) {
             self.backlog.subtract(member.client.unsent());
             let leaver = member.end(watch, fault);
@@ -264,104 +277,6 @@ impl<O: Origin> Roll<O> {
         match &self.newcomer {
             Some(client) => client.displaces.is_some(),
             None => false,
-        }
-    }
-
-    /// Has the client of a slot give way to the newcomer, where one is named. Whether there is room
-    /// for it: else it is turned away.
-    pub fn displace<R: Wait + Clock, W: Watch>(
-        &mut self,
-        rt: &R,
-        watch: &W,
-        gives_way: Option<usize>,
-    ) -> bool {
-        let Some(mut client) = self.newcomer.take() else {
-            return false;
-        };
-        let gone = match gives_way {
-            Some(slot) => give_way(&mut self.connections.slots, &mut self.backlog, watch, slot),
-            None => None,
-        };
-        match self.leavers.displace(rt, watch, gone, client.badge) {
-            Some(badge) => {
-                client.badge = badge;
-                client.displaces = None;
-                self.newcomer = Some(client);
-                true
-            }
-            None => {
-                self.leavers.refuse(client);
-                false
-            }
-        }
-    }
-
-    /// Gives the newcomer a slot, behind so many looks at how busy loops are. It is answered under
-    /// no older table than before: first the loop comes as far as whoever answered it last. It
-    /// stays a newcomer where there is no such table, or no memory.
-    pub fn take_in<K: Outlook>(&mut self, outlook: &mut K, looks: u64) -> Option<usize> {
-        let client = self.newcomer.take()?;
-        let place = client.place;
-        let taken = if outlook.reach(place) {
-            put_in(
-                &mut self.connections,
-                &mut self.backlog,
-                client,
-                outlook,
-                looks,
-            )
-        } else {
-            Err(client)
-        };
-        match taken {
-            Ok(slot) => Some(slot),
-            Err(client) => {
-                self.newcomer = Some(client);
-                None
-            }
-        }
-    }
-
-    /// Ends the newcomer by a fault.
-    pub fn end_newcomer<R: Wait + Clock, W: Watch>(
-        &mut self,
-        rt: &R,
-        watch: &W,
-        fault: PlainFault,
-    ) {
-        if let Some(client) = self.newcomer.take() {
-            let leaver = Leaver::on_the_way(client, fault);
-            self.leavers.end(rt, watch, leaver);
-        }
-    }
-
-    /// Hands the client of a slot on to the loop of a number, where it may move. Without memory it
-    /// is a newcomer here.
-    pub fn hand_on<R: Wait, K: Outlook>(
-        &mut self,
-        rt: &R,
-        loops: &Loops<O>,
-        number: usize,
-        slot: usize,
-        outlook: &K,
-    ) {
-        if self.newcomer.is_some() {
-            return;
-        }
-        let Some(member) = self.connections.slots.take(slot) else {
-            return;
-        };
-        if !member.client.may_move() {
-            let _ = self.connections.slots.put(slot, member);
-            return;
-        }
-        let _ = self.connections.slots.release(slot);
-        self.backlog.subtract(member.client.unsent());
-        let client = member.part(outlook);
-        let _ = client.port.stream().leave(self.connections.registry());
-        match loops.hand(rt, number, client) {
-            Ok(enqueued) => self.handed.add(enqueued.badge()),
-            Err(client) => self.newcomer = Some(client),
         }
     }
 

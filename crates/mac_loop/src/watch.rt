@@ -6,10 +6,10 @@ ghost use Rattle.mac_loop.specs.Badges.{IsSameBadge};
 
 use crate::ended::EndedLife;
 use crate::port::SocketPort;
-use mac_count::{REQUESTS, Request};
+use mac_count::{AnsweredRequest, REQUESTS};
 use mac_host::{Badge, Exchange, HEAVY, Life, Socket, Traffic};
-use mac_mail::History;
 use mac_plain::{Client, Course, Ended, Fall};
+use mac_queue::History;
 use std::alloc::AllocError;
 use std::sync::Wait;
 use std::time::Clock;
@@ -113,5 +113,5 @@ pub trait Watch: Send + Sync {
 
     /// A client waits for a worker no more, for which it did so many microseconds. What it has had
     /// answered then, if anything.
-    fn narrow(&self, life: Life, answered: Option<Request>, micros: u64);
+    fn narrow(&self, life: Life, answered: Option<AnsweredRequest>, micros: u64);
 }

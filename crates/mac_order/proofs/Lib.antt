@@ -14,3 +14,5 @@ pub mod SentPlaces
 pub mod Reaching
 pub mod Refusals
 pub mod Admissions
+pub mod Releases
+pub mod Meetings

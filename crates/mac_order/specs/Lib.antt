@@ -5,3 +5,6 @@ pub mod Slots
 pub mod State
 pub mod Step
 pub mod Stored
+pub mod Fault
+pub mod Ring
+pub mod RingStored

@@ -1,4 +1,4 @@
-//! Why a buffer refuses a job or an answer.
+//! Why a buffer refuses a job or an answer, and an intake a job.
 
 use thiserror::Error;
 
@@ -31,4 +31,15 @@ pub enum SettleFault {
     /// The buffer is closed.
     #[error("the reorder buffer is closed")]
     Closed,
+}
+
+/// Why an intake did not admit a job.
+#[derive(Clone, Copy, Debug, PartialEq, Eq, Error)]
+pub enum AdmitFault {
+    /// No slip of the ring is free.
+    #[error("all 64 slips of the ring hold a job")]
+    Full,
+    /// The place would be the greatest that a number can name, which is never given.
+    #[error("the ring has no place left to give")]
+    Last,
 }

@@ -12,12 +12,20 @@ ghost use Rattle.mac_order.specs.History.{Events, IsBeginningOf, Reaches, KeepsL
 
 use crate::event::{Event, Outcome};
 use crate::next::Next;
+use crate::outlet::OPEN_SLIPS_MAX;
 use crate::reorder::SLOTS;
+use crate::ring::RING_SLIPS_MAX;
 use crate::service::Service;
 
 /// A reorder buffer has 128 slots.
 pub fn slots_are_128()
     ensures { SLOTS ≡ 128 }
+{}
+
+/// A ring holds 64 slips, and an outlet has at most 64 open.
+pub fn slips_are_64()
+    ensures ring { RING_SLIPS_MAX ≡ 64 }
+    ensures open { OPEN_SLIPS_MAX ≡ 64 }
 {}
 
 /// Jobs compare as equal exactly where they hold the same.

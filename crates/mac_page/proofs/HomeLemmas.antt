@@ -12,7 +12,7 @@ use Rattle.http_uri.specs.Uri.{uri_path}
 use Rattle.mac_http.specs.Facts.{one_value}
 use Rattle.mac_http.specs.Saying.{IsOverloaded}
 use Rattle.mac_page.specs.declared.site.Site.{Site}
-use Rattle.mac_page.specs.declared.told.Told.TheVariants.{Foreign}
+use Rattle.mac_page.specs.declared.told.SiteTold.TheVariants.{Foreign}
 use Rattle.mac_page.specs.declared.route.File.{File}
 use Rattle.mac_page.specs.Home.{brings_secret, is_at_home, is_named, is_own, is_shown}
 use Rattle.mac_page.specs.Route.{file_in}

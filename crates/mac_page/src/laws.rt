@@ -33,7 +33,8 @@ pub fn others_are_told_nothing()
         → IsResponse 403 guards [] response ⊎ IsOverloaded response }
 {}
 
-/// A file for which another page asks, or which is asked of another site, gets the same.
+/// A file gets the same where a field says that another page asks for it, or that it is asked of
+/// another site.
 pub fn others_are_shown_nothing()
     ensures { (site : PlainSite) (request : PlainRequest (List ℕ)) (response : Response)
         (file : File) → file_in (uri_path (head_of request).uri) ≡ Some file

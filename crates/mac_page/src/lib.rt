@@ -19,4 +19,4 @@ pub use face::PageFace;
 pub use route::File;
 pub use secret::{Secret, Secrets};
 pub use site::{Site, SiteTexts};
-pub use told::Told;
+pub use told::SiteTold;

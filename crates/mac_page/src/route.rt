@@ -5,7 +5,7 @@ ghost use Rattle.std.specs.Option.{option_map};
 ghost use Rattle.mac_page.specs.Route.{all_calls, asked_in, file_in, verify_in};
 
 use mac_calls::Call;
-use mac_http::{Asked, Calls, call_in};
+use mac_http::{Calls, PathCall, call_in};
 
 /// The paths of the files.
 const DOCUMENT: &[u8] = b"/";
@@ -56,7 +56,7 @@ fn all_calls() -> Calls
 }
 
 /// The call that a path asks for.
-pub(crate) fn asked_in(path: &[u8]) -> Option<Asked<'_>>
+pub(crate) fn asked_in(path: &[u8]) -> Option<PathCall<'_>>
     ensures { option_map (λ asked. (asked.call, asked.name.now)) result ≡ asked_in path.now }
 {
     match call_in(all_calls(), path) {
@@ -66,11 +66,11 @@ pub(crate) fn asked_in(path: &[u8]) -> Option<Asked<'_>>
 }
 
 /// The verify that a path asks for.
-fn verify_in(path: &[u8]) -> Option<Asked<'_>>
+fn verify_in(path: &[u8]) -> Option<PathCall<'_>>
     ensures { option_map (λ asked. (asked.call, asked.name.now)) result ≡ verify_in path.now }
 {
     let name = path.strip_prefix(VERIFY)?;
-    Some(Asked {
+    Some(PathCall {
         call: Call::Verify,
         name,
     })

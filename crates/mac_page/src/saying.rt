@@ -10,7 +10,7 @@ ghost use Rattle.mac_page.specs.Told.{text_of, told_of, type_of};
 
 use crate::route::File;
 use crate::site::Site;
-use crate::told::{Told, told_of};
+use crate::told::{SiteTold, told_of};
 use bytes::{BufMut, Bytes};
 use http::header::{
     ALLOW, CACHE_CONTROL, CONTENT_SECURITY_POLICY, CONTENT_TYPE, HeaderName, HeaderValue,
@@ -18,7 +18,7 @@ use http::header::{
 };
 use http::{Request, StatusCode};
 use http_server::{Response, Rope};
-use mac_calls::Outcome;
+use mac_calls::CallOutcome;
 use std::alloc::{AllocError, Global};
 
 /// From where a browser may take what, once it shows the page.
@@ -64,7 +64,7 @@ fn fill(
 }
 
 /// Fills a blank response with what is told.
-fn say(site: &Site, told: &Told, response: &mut Response) -> Result<(), AllocError>
+fn say(site: &Site, told: &SiteTold, response: &mut Response) -> Result<(), AllocError>
     requires { IsBlank response.old }
     ensures { OnOk result (Tells site.now told.now response.new) }
 {
@@ -75,43 +75,43 @@ fn say(site: &Site, told: &Told, response: &mut Response) -> Result<(), AllocErr
 }
 
 /// The status that tells it.
-fn status(told: &Told) -> StatusCode
+fn status(told: &SiteTold) -> StatusCode
     ensures { result ≡ status_of told.now }
 {
     match told {
-        Told::Foreign => StatusCode::FORBIDDEN,
-        Told::Unknown => StatusCode::NOT_FOUND,
-        Told::NoGet | Told::NoPost => StatusCode::METHOD_NOT_ALLOWED,
-        Told::File(_) | Told::Here | Told::Names(_) => StatusCode::OK,
-        Told::Called(outcome) => outcome_status(outcome),
+        SiteTold::Foreign => StatusCode::FORBIDDEN,
+        SiteTold::Unknown => StatusCode::NOT_FOUND,
+        SiteTold::NoGet | SiteTold::NoPost => StatusCode::METHOD_NOT_ALLOWED,
+        SiteTold::File(_) | SiteTold::Here | SiteTold::Names(_) => StatusCode::OK,
+        SiteTold::Called(outcome) => outcome_status(outcome),
     }
 }
 
-fn outcome_status(outcome: &Outcome) -> StatusCode
+fn outcome_status(outcome: &CallOutcome) -> StatusCode
     ensures { result ≡ status_of_outcome outcome.now }
 {
     match outcome {
-        Outcome::NoKey => StatusCode::NOT_FOUND,
-        Outcome::Minted { .. } | Outcome::Reply(_) => StatusCode::OK,
-        Outcome::Refused { .. } => StatusCode::BAD_REQUEST,
+        CallOutcome::NoKey => StatusCode::NOT_FOUND,
+        CallOutcome::Minted { .. } | CallOutcome::Reply(_) => StatusCode::OK,
+        CallOutcome::Refused { .. } => StatusCode::BAD_REQUEST,
     }
 }
 
 /// Appends the fields that tell it.
-fn put_fields(told: &Told, response: &mut Response) -> Result<(), AllocError>
+fn put_fields(told: &SiteTold, response: &mut Response) -> Result<(), AllocError>
     ensures fields { OnOk result
         (fields_of response.new ≡ fields_of response.old ++ fields_for told.now) }
     ensures status { response.new.status ≡ response.old.status }
     ensures body { response.new.body ≡ response.old.body }
 {
     match told {
-        Told::Foreign | Told::Unknown => Ok(()),
-        Told::NoGet => response.add_header(ALLOW, HeaderValue::from_static("GET")),
-        Told::NoPost => response.add_header(ALLOW, HeaderValue::from_static("POST")),
-        Told::File(file) => response.add_header(CONTENT_TYPE, media_type(*file)),
-        Told::Here => response.add_header(CONTENT_TYPE, plain_text()),
-        Told::Names(_) => put_json(response),
-        Told::Called(outcome) => put_outcome(outcome, response),
+        SiteTold::Foreign | SiteTold::Unknown => Ok(()),
+        SiteTold::NoGet => response.add_header(ALLOW, HeaderValue::from_static("GET")),
+        SiteTold::NoPost => response.add_header(ALLOW, HeaderValue::from_static("POST")),
+        SiteTold::File(file) => response.add_header(CONTENT_TYPE, media_type(*file)),
+        SiteTold::Here => response.add_header(CONTENT_TYPE, plain_text()),
+        SiteTold::Names(_) => put_json(response),
+        SiteTold::Called(outcome) => put_outcome(outcome, response),
     }
 }
 
@@ -133,15 +133,16 @@ fn media_type(file: File) -> HeaderValue
 }
 
 /// Appends the fields that tell what came of a call.
-fn put_outcome(outcome: &Outcome, response: &mut Response) -> Result<(), AllocError>
+fn put_outcome(outcome: &CallOutcome, response: &mut Response) -> Result<(), AllocError>
     ensures fields { OnOk result
         (fields_of response.new ≡ fields_of response.old ++ fields_of_outcome outcome.now) }
     ensures status { response.new.status ≡ response.old.status }
     ensures body { response.new.body ≡ response.old.body }
 {
     match outcome {
-        Outcome::NoKey => Ok(()),
-        Outcome::Minted { .. } | Outcome::Reply(_) | Outcome::Refused { .. } => put_json(response),
+        CallOutcome::NoKey => Ok(()),
+        CallOutcome::Minted { .. } | CallOutcome::Reply(_) | CallOutcome::Refused { .. } =>
+            put_json(response),
     }
 }
 
@@ -180,15 +181,15 @@ fn put_guards(response: &mut Response) -> Result<(), AllocError>
 }
 
 /// Appends the body that tells it.
-fn put_body(site: &Site, told: &Told, body: &mut Rope) -> Result<(), AllocError>
+fn put_body(site: &Site, told: &SiteTold, body: &mut Rope) -> Result<(), AllocError>
     ensures { OnOk result (body.new.items ≡ body.old.items ++ body_for site.now told.now) }
 {
     match told {
-        Told::Foreign | Told::Unknown | Told::NoGet | Told::NoPost => Ok(()),
-        Told::File(file) => body.put_slice(text(site, *file)),
-        Told::Here => body.put_slice(&site.secrets.of_site.digits()),
-        Told::Names(json) => body.put_slice(json.as_slice()),
-        Told::Called(outcome) => put_outcome_body(outcome, body),
+        SiteTold::Foreign | SiteTold::Unknown | SiteTold::NoGet | SiteTold::NoPost => Ok(()),
+        SiteTold::File(file) => body.put_slice(text(site, *file)),
+        SiteTold::Here => body.put_slice(&site.secrets.of_site.digits()),
+        SiteTold::Names(json) => body.put_slice(json.as_slice()),
+        SiteTold::Called(outcome) => put_outcome_body(outcome, body),
     }
 }
 
@@ -204,13 +205,13 @@ fn text(site: &Site, file: File) -> &[u8]
 }
 
 /// Appends the body that tells what came of a call.
-fn put_outcome_body(outcome: &Outcome, body: &mut Rope) -> Result<(), AllocError>
+fn put_outcome_body(outcome: &CallOutcome, body: &mut Rope) -> Result<(), AllocError>
     ensures { OnOk result (body.new.items ≡ body.old.items ++ body_of_outcome outcome.now) }
 {
     match outcome {
-        Outcome::NoKey => Ok(()),
-        Outcome::Minted { json, .. } => body.put_slice(json.as_slice()),
-        Outcome::Reply(json) => body.put_slice(json.as_slice()),
-        Outcome::Refused { json, .. } => body.put_slice(json.as_slice()),
+        CallOutcome::NoKey => Ok(()),
+        CallOutcome::Minted { json, .. } => body.put_slice(json.as_slice()),
+        CallOutcome::Reply(json) => body.put_slice(json.as_slice()),
+        CallOutcome::Refused { json, .. } => body.put_slice(json.as_slice()),
     }
 }

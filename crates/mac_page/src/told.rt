@@ -11,8 +11,8 @@ use crate::route::{File, asked_in, file_in};
 use crate::site::Site;
 use bytes::Bytes;
 use http::{Method, Request};
-use mac_calls::{Brought, Outcome, answer, names_json};
-use mac_http::Asked;
+use mac_calls::{Brought, CallOutcome, answer, names_json};
+use mac_http::PathCall;
 use std::alloc::{AllocError, Global};
 
 /// The path of what the page is told, so that it knows who answers.
@@ -23,7 +23,7 @@ const NAMES: &[u8] = b"/names";
 
 /// What a request is told.
 #[derive(Drop)]
-pub enum Told {
+pub enum SiteTold {
     /// It is asked of another site, or by another page, or by none that has the secret.
     Foreign,
     /// There is nothing at its path.
@@ -39,7 +39,7 @@ pub enum Told {
     /// The names of the keys, as JSON.
     Names(mac_wire::Bytes),
     /// What came of a call.
-    Called(Outcome),
+    Called(CallOutcome),
 }
 
 /// What a request is told, with these random bytes for a token that it may ask for.
@@ -48,7 +48,7 @@ pub(crate) fn told_of(
     site: &Site,
     drawn: &[u8; 16],
     request: &Request<Bytes>,
-) -> Result<Told, AllocError>
+) -> Result<SiteTold, AllocError>
     ensures { IfOk result (λ told. told ≡ told_of site.now drawn.now request.now) }
 {
     match file_in(request.uri().path().as_bytes()) {
@@ -58,15 +58,15 @@ pub(crate) fn told_of(
 }
 
 /// What a request for this file is told.
-fn told_file(site: &Site, request: &Request<Bytes>, file: File) -> Told
+fn told_file(site: &Site, request: &Request<Bytes>, file: File) -> SiteTold
     ensures { result ≡ told_file site.now request.now file }
 {
     if !is_shown(site, request) {
-        Told::Foreign
+        SiteTold::Foreign
     } else if is_get(request) {
-        Told::File(file)
+        SiteTold::File(file)
     } else {
-        Told::NoGet
+        SiteTold::NoGet
     }
 }
 
@@ -76,11 +76,11 @@ fn told_elsewhere(
     site: &Site,
     drawn: &[u8; 16],
     request: &Request<Bytes>,
-) -> Result<Told, AllocError>
+) -> Result<SiteTold, AllocError>
     ensures { IfOk result (λ told. told ≡ told_elsewhere site.now drawn.now request.now) }
 {
     if !is_at_home(site, request) {
-        return Ok(Told::Foreign);
+        return Ok(SiteTold::Foreign);
     }
     let path = request.uri().path().as_bytes();
     if path == HERE {
@@ -90,13 +90,13 @@ fn told_elsewhere(
 }
 
 /// What a request is told that asks who answers.
-fn told_here(request: &Request<Bytes>) -> Told
+fn told_here(request: &Request<Bytes>) -> SiteTold
     ensures { result ≡ told_here request.now }
 {
     if is_get(request) {
-        Told::Here
+        SiteTold::Here
     } else {
-        Told::NoGet
+        SiteTold::NoGet
     }
 }
 
@@ -107,7 +107,7 @@ fn told_plain(
     drawn: &[u8; 16],
     request: &Request<Bytes>,
     path: &[u8],
-) -> Result<Told, AllocError>
+) -> Result<SiteTold, AllocError>
     ensures { IfOk result (λ told. told ≡ told_plain site.now drawn.now request.now path.now) }
 {
     if path != NAMES {
@@ -116,19 +116,19 @@ fn told_plain(
     if is_get(request) {
         told_names(alloc, site)
     } else {
-        Ok(Told::NoGet)
+        Ok(SiteTold::NoGet)
     }
 }
 
 /// The names of the keys, where there is a key file.
-fn told_names(alloc: Global, site: &Site) -> Result<Told, AllocError>
+fn told_names(alloc: Global, site: &Site) -> Result<SiteTold, AllocError>
     ensures { IfOk result (λ told. told ≡ told_names site.now) }
 {
     if !site.has_keys {
-        return Ok(Told::Unknown);
+        return Ok(SiteTold::Unknown);
     }
     let json = names_json(alloc, &site.keys)?;
-    Ok(Told::Names(mac_wire::Bytes::new(json)))
+    Ok(SiteTold::Names(mac_wire::Bytes::new(json)))
 }
 
 /// What comes of this call, or there is none.
@@ -137,14 +137,14 @@ fn told_call(
     site: &Site,
     drawn: &[u8; 16],
     request: &Request<Bytes>,
-    asked: Option<Asked<'_>>,
-) -> Result<Told, AllocError>
+    asked: Option<PathCall<'_>>,
+) -> Result<SiteTold, AllocError>
     ensures { IfOk result (λ told. told ≡ told_call site.now drawn.now request.now
         (option_map (λ a. (a.call, a.name.now)) asked.entry)) }
 {
     match asked {
-        None => Ok(Told::Unknown),
-        Some(_) if !is_post(request) => Ok(Told::NoPost),
+        None => Ok(SiteTold::Unknown),
+        Some(_) if !is_post(request) => Ok(SiteTold::NoPost),
         Some(asked) => {
             let brought = Brought {
                 body: request.body(),
@@ -153,7 +153,7 @@ fn told_call(
                 moment: 0,
             };
             let outcome = answer(alloc, &site.keys, asked.name, asked.call, brought)?;
-            Ok(Told::Called(outcome))
+            Ok(SiteTold::Called(outcome))
         }
     }
 }

@@ -23,33 +23,33 @@ use Rattle.mac_plain.specs.Requests.{Adds, AreOwned, AreWithin, asked_of, job_at
 use Rattle.mac_plain.specs.Receiving.{Receives}
 use Rattle.mac_plain.specs.Pairs.{EachPair}
 use Rattle.mac_plain.specs.declared.client.Client.{Client}
-use Rattle.mac_plain.specs.declared.request.Request.{Request}
+use Rattle.mac_plain.specs.declared.request.RoundRequest.{RoundRequest}
 use Rattle.mac_plain.proofs.Pieces.{none_added}
 use Rattle.mac_plain.proofs.Steps.{begins_so, ends_so, goes_still, none_done}
 
 -- ---- what is one owner's
 
-asked-append : (owner : ℕ) (arena : List ℕ) (a b : List Request) → asked_of owner arena (a ++ b) ≡ asked_of owner arena a ++ asked_of owner arena b
+asked-append : (owner : ℕ) (arena : List ℕ) (a b : List RoundRequest) → asked_of owner arena (a ++ b) ≡ asked_of owner arena a ++ asked_of owner arena b
 asked-append owner arena a b =
-    ap (map (payload_at arena)) (filter-append (λ (r : Request). r.owner == owner) a b)
-    ∙ map-append (payload_at arena) (filter (λ (r : Request). r.owner == owner) a) (filter (λ (r : Request). r.owner == owner) b)
+    ap (map (payload_at arena)) (filter-append (λ (r : RoundRequest). r.owner == owner) a b)
+    ∙ map-append (payload_at arena) (filter (λ (r : RoundRequest). r.owner == owner) a) (filter (λ (r : RoundRequest). r.owner == owner) b)
 
 -- all of an owner's own requests are its own, and none is another's
-pub asked_own : (owner : ℕ) (arena : List ℕ) (own : List Request) → AreOwned owner own → asked_of owner arena own ≡ map (payload_at arena) own
+pub asked_own : (owner : ℕ) (arena : List ℕ) (own : List RoundRequest) → AreOwned owner own → asked_of owner arena own ≡ map (payload_at arena) own
 asked_own owner arena [] owned = refl
 asked_own owner arena (r ∷ rs) owned = rw (eq-eqb r.owner owner owned.0) (ap (λ (l : List (List ℕ)). payload_at arena r ∷ l) (asked_own owner arena rs owned.1))
 
-pub asked_other : (owner other : ℕ) (arena : List ℕ) (own : List Request) → AreOwned owner own → other ≢ owner → asked_of other arena own ≡ []
+pub asked_other : (owner other : ℕ) (arena : List ℕ) (own : List RoundRequest) → AreOwned owner own → other ≢ owner → asked_of other arena own ≡ []
 asked_other owner other arena [] owned differ = refl
 asked_other owner other arena (r ∷ rs) owned differ = rw (ne_eqb r.owner other (λ e. differ (sym e ∙ owned.0))) (asked_other owner other arena rs owned.1 differ)
 
 -- what lies behind changes nothing of what lies there
-payload_kept : (arena part : List ℕ) (r : Request) → (r.start ≤ r.end) × (r.end ≤ length arena) → payload_at (arena ++ part) r ≡ payload_at arena r
+payload_kept : (arena part : List ℕ) (r : RoundRequest) → (r.start ≤ r.end) × (r.end ≤ length arena) → payload_at (arena ++ part) r ≡ payload_at arena r
 payload_kept arena part r (starts, ends) =
     ap (take (r.end - r.start)) (drop-append-le r.start arena part (omega arith))
     ∙ take-append-le (r.end - r.start) (drop r.start arena) part (omega (arith, length-drop r.start arena))
 
-asked_kept_by : (owner : ℕ) (arena part : List ℕ) (rs : List Request) → AllByRecursion (λ (r : Request). (r.start ≤ r.end) × (r.end ≤ length arena)) rs
+asked_kept_by : (owner : ℕ) (arena part : List ℕ) (rs : List RoundRequest) → AllByRecursion (λ (r : RoundRequest). (r.start ≤ r.end) × (r.end ≤ length arena)) rs
     → asked_of owner (arena ++ part) rs ≡ asked_of owner arena rs
 asked_kept_by owner arena part [] within = refl
 asked_kept_by owner arena part (r ∷ rs) within = elim (cases_eq r.owner owner) [
@@ -58,8 +58,8 @@ asked_kept_by owner arena part (r ∷ rs) within = elim (cases_eq r.owner owner)
   | inr other ↦ rw (ne_eqb r.owner owner other) (asked_kept_by owner arena part rs within.1)
 ]
 
-pub asked_kept : (owner : ℕ) (arena part : List ℕ) (rs : List Request) → AreWithin (length arena) rs → asked_of owner (arena ++ part) rs ≡ asked_of owner arena rs
-asked_kept owner arena part rs within = asked_kept_by owner arena part rs (recursion_from_All (λ (r : Request). (r.start ≤ r.end) × (r.end ≤ length arena)) rs within)
+pub asked_kept : (owner : ℕ) (arena part : List ℕ) (rs : List RoundRequest) → AreWithin (length arena) rs → asked_of owner (arena ++ part) rs ≡ asked_of owner arena rs
+asked_kept owner arena part rs within = asked_kept_by owner arena part rs (recursion_from_All (λ (r : RoundRequest). (r.start ≤ r.end) × (r.end ≤ length arena)) rs within)
 
 -- ---- two steps of one client
 
@@ -208,14 +208,14 @@ pub nobody_goes : {P : Type 0} (tells : Bool) (taken written : P → List ℕ) (
 nobody_goes {P} tells taken written current xs =
     each_same (λ _ (b a : Client P). Goes tells taken written current b a [] []) xs (λ k x there. nothing_goes tells taken written current x)
 
-pub still_read : {P : Type 0} (tells : Bool) (taken written : P → List ℕ) (current : Current) (arena : List ℕ) (requests : List Request) (xs : List (Client P)) → requests ≡ []
+pub still_read : {P : Type 0} (tells : Bool) (taken written : P → List ℕ) (current : Current) (arena : List ℕ) (requests : List RoundRequest) (xs : List (Client P)) → requests ≡ []
     → AreRead tells taken written current (λ k. asked_of k arena requests) xs xs
 still_read {P} tells taken written current arena requests xs none =
     each_same (λ k (b a : Client P). Goes tells taken written current b a [] (asked_of k arena requests)) xs
-    (λ k x there. subst (λ (l : List Request). Goes tells taken written current x x [] (asked_of k arena l)) (sym none) (nothing_goes tells taken written current x))
+    (λ k x there. subst (λ (l : List RoundRequest). Goes tells taken written current x x [] (asked_of k arena l)) (sym none) (nothing_goes tells taken written current x))
 
 -- one more client was read
-pub one_read : {P : Type 0} (tells : Bool) (taken written : P → List ℕ) (current : Current) (olds news : List (Client P)) (i : ℕ) (now next : Client P) (arena arena' : List ℕ) (requests requests' : List Request)
+pub one_read : {P : Type 0} (tells : Bool) (taken written : P → List ℕ) (current : Current) (olds news : List (Client P)) (i : ℕ) (now next : Client P) (arena arena' : List ℕ) (requests requests' : List RoundRequest)
     → slice_get news i ≡ Some now → AreWithin (length arena) requests → Receives tells taken written current i now next arena arena' requests requests'
     → AreRead tells taken written current (λ k. asked_of k arena requests) olds news
     → AreRead tells taken written current (λ k. asked_of k arena' requests') olds (set news i next)
@@ -234,7 +234,7 @@ one_read {P} tells taken written current olds news i now next arena arena' reque
         ∙ ap (λ (l : List (List ℕ)). l ++ asked_of k arena' r.own) (ap (λ (l : List ℕ). asked_of k l requests) r.arena_is ∙ asked_kept k arena r.part requests within)
 
 -- some requests were answered, and others after them
-pub more_answered : {P : Type 0} (tells : Bool) (taken written : P → List ℕ) (current : Current) (arena : List ℕ) (first second : List Request) (xs ys zs : List (Client P)) → length ys ≡ length zs
+pub more_answered : {P : Type 0} (tells : Bool) (taken written : P → List ℕ) (current : Current) (arena : List ℕ) (first second : List RoundRequest) (xs ys zs : List (Client P)) → length ys ≡ length zs
     → AreAnswered tells taken written current (λ k. asked_of k arena first) xs ys → AreAnswered tells taken written current (λ k. asked_of k arena second) ys zs
     → AreAnswered tells taken written current (λ k. asked_of k arena (first ++ second)) xs zs
 more_answered {P} tells taken written current arena first second xs ys zs same one two =
@@ -244,7 +244,7 @@ more_answered {P} tells taken written current arena first second xs ys zs same o
     (answers_more tells taken written current x y z (asked_of k arena first) (asked_of k arena second) f s))
 
 -- the request of a client that isn't there
-pub nobody_answered : {P : Type 0} (tells : Bool) (taken written : P → List ℕ) (current : Current) (arena : List ℕ) (r : Request) (xs : List (Client P)) → length xs ≤ r.owner
+pub nobody_answered : {P : Type 0} (tells : Bool) (taken written : P → List ℕ) (current : Current) (arena : List ℕ) (r : RoundRequest) (xs : List (Client P)) → length xs ≤ r.owner
     → AreAnswered tells taken written current (λ k. asked_of k arena (r ∷ [])) xs xs
 nobody_answered {P} tells taken written current arena r xs out =
     each_same (λ k (b a : Client P). Goes tells taken written current b a (asked_of k arena (r ∷ [])) []) xs
@@ -253,7 +253,7 @@ nobody_answered {P} tells taken written current arena r xs out =
     (nothing_goes tells taken written current x))
 
 -- one client took the reply to its request
-pub one_answered : {P : Type 0} (tells : Bool) (taken written : P → List ℕ) (current : Current) (arena : List ℕ) (r : Request) (xs : List (Client P)) (now next : Client P) → slice_get xs r.owner ≡ Some now
+pub one_answered : {P : Type 0} (tells : Bool) (taken written : P → List ℕ) (current : Current) (arena : List ℕ) (r : RoundRequest) (xs : List (Client P)) (now next : Client P) → slice_get xs r.owner ≡ Some now
     → Goes tells taken written current now next (payload_at arena r ∷ []) []
     → AreAnswered tells taken written current (λ k. asked_of k arena (r ∷ [])) xs (set xs r.owner next)
 one_answered {P} tells taken written current arena r xs now next there g =
@@ -282,15 +282,15 @@ all_served {P} tells taken written current owed xs bs cs ds first second one two
     (λ k (a c : Client P). (b : Client P) × Goes tells taken written current a b [] (owed k) × Goes tells taken written current b c (owed k) []) xs bs cs first one two (λ k a b c x y. (b, x, y)))
     three (λ k a c d x z. serves tells taken written current a x.0 c d (owed k) x.1 x.2 z)
 
-pub within_more : (room more : ℕ) (rs : List Request) → room ≤ more → AreWithin room rs → AreWithin more rs
+pub within_more : (room more : ℕ) (rs : List RoundRequest) → room ≤ more → AreWithin room rs → AreWithin more rs
 within_more room more rs less within k d there = let w = within k d there in (w.0, omega (arith, w.1, less))
 
 -- the requests that a read added lie within, as the others
-pub within_added : (arena arena' part : List ℕ) (owner : ℕ) (requests requests' own : List Request) → arena' ≡ arena ++ part → AreWithin (length arena) requests
+pub within_added : (arena arena' part : List ℕ) (owner : ℕ) (requests requests' own : List RoundRequest) → arena' ≡ arena ++ part → AreWithin (length arena) requests
     → Adds owner (length arena') requests requests' own → AreWithin (length arena') requests'
 within_added arena arena' part owner requests requests' own is within adds =
     subst (AreWithin (length arena')) (sym adds.are)
-    (All-append (λ (r : Request). (r.start ≤ r.end) × (r.end ≤ length arena')) requests own
+    (All-append (λ (r : RoundRequest). (r.start ≤ r.end) × (r.end ≤ length arena')) requests own
     (within_more (length arena) (length arena') requests (omega (arith, ap length is, length-append arena part)) within) adds.within)
 
 -- the element that was read by index
@@ -298,7 +298,7 @@ pub read_at : {A : Type 0} (xs : List A) (i : ℕ) (x : A) → i < length xs →
 read_at {A} xs i x there is = slice_get-get_or xs i x there ∙ ap (λ (y : A). Some y) (sym is)
 
 -- a client that isn't read
-pub nothing_received : {P : Type 0} (tells : Bool) (taken written : P → List ℕ) (current : Current) (owner : ℕ) (x : Client P) (arena : List ℕ) (requests : List Request)
+pub nothing_received : {P : Type 0} (tells : Bool) (taken written : P → List ℕ) (current : Current) (owner : ℕ) (x : Client P) (arena : List ℕ) (requests : List RoundRequest)
     → Receives tells taken written current owner x x arena arena requests requests
 nothing_received tells taken written current owner x arena requests = record {
   part = [];
@@ -311,33 +311,33 @@ nothing_received tells taken written current owner x arena requests = record {
 -- ---- the requests of a run
 
 -- those before a place, and those from there on up to another
-pub run_more : (at end : ℕ) (xs : List Request) → at ≤ end → take at xs ++ take (end - at) (drop at xs) ≡ take end xs
+pub run_more : (at end : ℕ) (xs : List RoundRequest) → at ≤ end → take at xs ++ take (end - at) (drop at xs) ≡ take end xs
 run_more at end xs less = sym (take-add at (end - at) xs) ∙ ap (λ (n : ℕ). take n xs) (let e : at + (end - at) ≡ end = omega arith in e)
 
-first_of_rest : (i : ℕ) (xs : List Request) (d : Request) → i < length xs → take 1 (drop i xs) ≡ get_or xs i d ∷ []
+first_of_rest : (i : ℕ) (xs : List RoundRequest) (d : RoundRequest) → i < length xs → take 1 (drop i xs) ≡ get_or xs i d ∷ []
 first_of_rest i [] d there = absurd (omega arith)
 first_of_rest zero (x ∷ xs) d there = refl
 first_of_rest (suc i) (x ∷ xs) d there = first_of_rest i xs d (omega arith)
 
 -- one request
-pub run_one : (i : ℕ) (xs : List Request) (d : Request) → i < length xs → take ((i + 1) - i) (drop i xs) ≡ get_or xs i d ∷ []
+pub run_one : (i : ℕ) (xs : List RoundRequest) (d : RoundRequest) → i < length xs → take ((i + 1) - i) (drop i xs) ≡ get_or xs i d ∷ []
 run_one i xs d there = ap (λ (n : ℕ). take n (drop i xs)) (let e : (i + 1) - i ≡ 1 = omega arith in e) ∙ first_of_rest i xs d there
 
 -- one request alone
-pub one_alone : (xs : List Request) (d : Request) → length xs ≡ 1 → xs ≡ get_or xs 0 d ∷ []
+pub one_alone : (xs : List RoundRequest) (d : RoundRequest) → length xs ≡ 1 → xs ≡ get_or xs 0 d ∷ []
 one_alone [] d e = absurd cc
 one_alone (x ∷ []) d e = refl
 one_alone (x ∷ y ∷ xs) d e = absurd cc
 
 -- the reply at a place is that to the request there
-pub answered_at : {P : Type 0} (current : Current) (clients : List (Client P)) (arena : List ℕ) (run : List Request) (i : ℕ) (d : Request) (reply : Reply) → slice_get (map reply_to_job (jobs_at current clients arena run)) i ≡ Some reply
+pub answered_at : {P : Type 0} (current : Current) (clients : List (Client P)) (arena : List ℕ) (run : List RoundRequest) (i : ℕ) (d : RoundRequest) (reply : Reply) → slice_get (map reply_to_job (jobs_at current clients arena run)) i ≡ Some reply
     → reply ≡ reply_to_job (job_at current arena (get_or run i d) (slice_get clients (get_or run i d).owner))
 answered_at current clients arena [] i d reply e = absurd cc
 answered_at current clients arena (r ∷ rs) zero d reply e = sym (some_is (reply_to_job (job_at current arena r (slice_get clients r.owner))) reply e)
 answered_at current clients arena (r ∷ rs) (suc i) d reply e = answered_at current clients arena rs i d reply e
 
 -- clients that were answered keep their rights, so that the job of a request is the same under them
-pub job_kept : {P : Type 0} (tells : Bool) (taken written : P → List ℕ) (current : Current) (owed : ℕ → List (List ℕ)) (arena : List ℕ) (r : Request) (xs ys : List (Client P)) → length xs ≡ length ys
+pub job_kept : {P : Type 0} (tells : Bool) (taken written : P → List ℕ) (current : Current) (owed : ℕ → List (List ℕ)) (arena : List ℕ) (r : RoundRequest) (xs ys : List (Client P)) → length xs ≡ length ys
     → AreAnswered tells taken written current owed xs ys → job_at current arena r (slice_get xs r.owner) ≡ job_at current arena r (slice_get ys r.owner)
 job_kept {P} tells taken written current owed arena r xs ys same are = by_both (slice_get xs r.owner) (slice_get ys r.owner) refl refl
   where

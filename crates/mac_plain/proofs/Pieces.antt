@@ -20,7 +20,7 @@ use Rattle.mac_plain.specs.Requests.{Adds, payload_at}
 use Rattle.mac_plain.specs.Receiving.{CutsTo, Leaves}
 use Rattle.mac_plain.specs.declared.course.Course.{Course}
 use Rattle.mac_plain.specs.declared.course.Course.TheVariants as course
-use Rattle.mac_plain.specs.declared.request.Request.{Request}
+use Rattle.mac_plain.specs.declared.request.RoundRequest.{RoundRequest}
 
 -- before a version is told there is no reply
 text_told : (v w : Option Version) (read rest : List ℕ) (done : List Job) (owed : List Arrival) → HasCome v read (arrivals done ++ owed) rest
@@ -84,7 +84,7 @@ waits_more before after piece version_is unsent_is answered_is carried_is unfini
     )
 
 -- a piece was taken in: the requests that were cut off are owed, and the rest is carried
-pub takes_piece : (before after : Session) (piece arena : List ℕ) (from at owner : ℕ) (requests requests' : List Request) (goes : Course)
+pub takes_piece : (before after : Session) (piece arena : List ℕ) (from at owner : ℕ) (requests requests' : List RoundRequest) (goes : Course)
     → after.version ≡ told_after before.version piece → after.unsent ≡ before.unsent → after.answered ≡ before.answered
     → drop from arena ≡ before.carried.items ++ frames_after before.version piece → after.carried.items ≡ drop at arena
     → (c : CutsTo arena from at owner requests requests') → Leaves goes (drop at arena)
@@ -110,11 +110,11 @@ takes_piece before after piece arena from at owner requests requests' goes versi
       counted = answered_is ∙ o.counted;
     })
 
-pub none_added : (owner room : ℕ) (requests : List Request) → Adds owner room requests requests []
+pub none_added : (owner room : ℕ) (requests : List RoundRequest) → Adds owner room requests requests []
 none_added owner room requests = record {
   are = sym (append-nil requests);
   owned = tt;
-  within = All-nil (λ (r : Request). (r.start ≤ r.end) × (r.end ≤ room));
+  within = All-nil (λ (r : RoundRequest). (r.start ≤ r.end) × (r.end ≤ room));
 }
 
 -- what came, where nothing was answered and nothing went

@@ -11,26 +11,26 @@ use Rattle.mac_wire.proofs.Sessions.{arrive_both, front_arrives}
 use Rattle.mac_plain.specs.Goes.{asked}
 use Rattle.mac_plain.specs.Requests.{AreOwned, AreWithin, payload_at}
 use Rattle.mac_plain.specs.Receiving.{CutsTo}
-use Rattle.mac_plain.specs.declared.request.Request.{Request}
+use Rattle.mac_plain.specs.declared.request.RoundRequest.{RoundRequest}
 use Rattle.mac_wire.specs.declared.arrival.TheConstants.{FRAME_MAX}
 use Rattle.mac_plain.specs.Dear.{AreCheap, is_dear}
 
 -- ---- cutting
 
-pub owned-append : (owner : ℕ) (a b : List Request) → AreOwned owner a → AreOwned owner b → AreOwned owner (a ++ b)
+pub owned-append : (owner : ℕ) (a b : List RoundRequest) → AreOwned owner a → AreOwned owner b → AreOwned owner (a ++ b)
 owned-append owner [] b x y = y
 owned-append owner (r ∷ a) b x y = (x.0, owned-append owner a b x.1 y)
 
-within_one : (room : ℕ) (r : Request) → r.start ≤ r.end → r.end ≤ room → AreWithin room (r ∷ [])
+within_one : (room : ℕ) (r : RoundRequest) → r.start ≤ r.end → r.end ≤ room → AreWithin room (r ∷ [])
 within_one room r a b = λ k d below. rw (let zero_is : k ≡ 0 = omega arith in zero_is) (a, b)
 
 one_cheap : (p : List ℕ) → is_dear p ≡ false → AreCheap (p ∷ [])
 one_cheap p kept = λ k d below. rw (let zero_is : k ≡ 0 = omega arith in zero_is) kept
 
-pub cuts_begin : (arena : List ℕ) (from owner : ℕ) (requests : List Request) → from ≤ length arena → CutsTo arena from from owner requests requests
+pub cuts_begin : (arena : List ℕ) (from owner : ℕ) (requests : List RoundRequest) → from ≤ length arena → CutsTo arena from from owner requests requests
 cuts_begin arena from owner requests inside = record {
   own = [];
-  adds = record { are = sym (append-nil requests); owned = tt; within = All-nil (λ (r : Request). (r.start ≤ r.end) × (r.end ≤ length arena)) };
+  adds = record { are = sym (append-nil requests); owned = tt; within = All-nil (λ (r : RoundRequest). (r.start ≤ r.end) × (r.end ≤ length arena)) };
   ahead = omega arith;
   inside = inside;
   arrive = λ more. refl;
@@ -38,12 +38,12 @@ cuts_begin arena from owner requests inside = record {
 }
 
 -- one more request was cut off
-pub cuts_next : (arena : List ℕ) (from at end start owner : ℕ) (before after : List Request) (payload rest : List ℕ)
+pub cuts_next : (arena : List ℕ) (from at end start owner : ℕ) (before after : List RoundRequest) (payload rest : List ℕ)
     → CutsTo arena from at owner before after → IsFront FRAME_MAX (drop at arena) payload rest → is_dear payload ≡ false
     → end ≡ length arena - length rest → start ≡ end - length payload
     → CutsTo arena from end owner before (after ++ record { owner = owner; start = start; end = end } ∷ [])
 cuts_next arena from at end start owner before after payload rest c f kept end_is start_is =
-    let r : Request = record { owner = owner; start = start; end = end } in
+    let r : RoundRequest = record { owner = owner; start = start; end = end } in
     let told : ℕ = told_length (drop at arena) in
     let size : length (drop at arena) ≡ length arena - at = length-drop at arena in
     let behind : length rest ≡ (length arena - at) - (4 + told) = ap length f.rest_is ∙ length-drop (4 + told) (drop at arena) ∙ ap (λ (n : ℕ). n - (4 + told)) size in
@@ -58,9 +58,9 @@ cuts_next arena from at end start owner before after payload rest c f kept end_i
     record {
       own = c.own ++ r ∷ [];
       adds = record {
-        are = ap (λ (l : List Request). l ++ r ∷ []) c.adds.are ∙ append_assoc before c.own (r ∷ []);
+        are = ap (λ (l : List RoundRequest). l ++ r ∷ []) c.adds.are ∙ append_assoc before c.own (r ∷ []);
         owned = owned-append owner c.own (r ∷ []) c.adds.owned (refl, tt);
-        within = All-append (λ (q : Request). (q.start ≤ q.end) × (q.end ≤ length arena)) c.own (r ∷ []) c.adds.within
+        within = All-append (λ (q : RoundRequest). (q.start ≤ q.end) × (q.end ≤ length arena)) c.own (r ∷ []) c.adds.within
             (within_one (length arena) r (omega (arith, ends, starts)) (omega (arith, end_is)));
       };
       ahead = omega (arith, c.ahead, ends);

@@ -10,7 +10,7 @@ use Rattle.mac_plain.specs.Requests.{Adds, payload_at}
 use Rattle.mac_plain.specs.declared.client.Client.{Client}
 use Rattle.mac_plain.specs.declared.course.Course.{Course}
 use Rattle.mac_plain.specs.declared.course.Course.TheVariants as course
-use Rattle.mac_plain.specs.declared.request.Request.{Request}
+use Rattle.mac_plain.specs.declared.request.RoundRequest.{RoundRequest}
 
 -- both pieces were put behind what lay there, or the first alone, or none
 pub record Joined (before first second after : List ℕ) : Type 0 where
@@ -33,8 +33,8 @@ Leaves (course.Ended why) rest = ⊥
 Leaves (course.Fallen why) rest = ⊥
 
 -- requests were cut off what lies from one place to another, none of them too dear for a loop
-pub record CutsTo (arena : List ℕ) (from at owner : ℕ) (before after : List Request) : Type 0 where
-  pub own : List Request
+pub record CutsTo (arena : List ℕ) (from at owner : ℕ) (before after : List RoundRequest) : Type 0 where
+  pub own : List RoundRequest
   pub adds : Adds owner (length arena) before after own
   pub ahead : from ≤ at
   pub inside : at ≤ length arena
@@ -42,20 +42,20 @@ pub record CutsTo (arena : List ℕ) (from at owner : ℕ) (before after : List 
   pub cheap : AreCheap (map (payload_at arena) own)
 
 -- as many as there are, or some where memory ran out
-abbrev pub Cuts : {E : Type 0} → List ℕ → ℕ → ℕ → List Request → List Request
+abbrev pub Cuts : {E : Type 0} → List ℕ → ℕ → ℕ → List RoundRequest → List RoundRequest
     → Result (ℕ × Course) E → Type 0
 Cuts arena from owner before after (Ok x) =
     CutsTo arena from x.0 owner before after × Leaves x.1 (drop x.0 arena)
 Cuts arena from owner before after (Err e) =
-    (own : List Request) × Adds owner (length arena) before after own
+    (own : List RoundRequest) × Adds owner (length arena) before after own
     × AreCheap (map (payload_at arena) own)
 
 -- a piece came on a session: with it these requests are owed besides
 pub record TakesIn (owner : ℕ) (piece : List ℕ) (before after : Session) (arena arena' : List ℕ)
-    (requests requests' : List Request) (goes : Course) : Type 0 where
+    (requests requests' : List RoundRequest) (goes : Course) : Type 0 where
   pub part : List ℕ
   pub arena_is : arena' ≡ arena ++ part
-  pub own : List Request
+  pub own : List RoundRequest
   pub adds : Adds owner (length arena') requests requests' own
   pub cheap : AreCheap (map (payload_at arena') own)
   pub goes_on : (read sent : List ℕ) (done : List Job) (owed : List (List ℕ))
@@ -67,9 +67,9 @@ pub record TakesIn (owner : ℕ) (piece : List ℕ) (before after : Session) (ar
 -- requests are behind those that were there.
 pub record Receives {P : Type 0} (tells : Bool) (taken written : P → List ℕ) (current : Current)
     (owner : ℕ) (before after : Client P) (arena arena' : List ℕ)
-    (requests requests' : List Request) : Type 0 where
+    (requests requests' : List RoundRequest) : Type 0 where
   pub part : List ℕ
   pub arena_is : arena' ≡ arena ++ part
-  pub own : List Request
+  pub own : List RoundRequest
   pub adds : Adds owner (length arena') requests requests' own
   pub goes : Goes tells taken written current before after [] (map (payload_at arena') own)

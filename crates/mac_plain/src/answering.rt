@@ -5,7 +5,7 @@ ghost use Rattle.mac_board.specs.Noticed.{Current as PlainCurrent};
 ghost use Rattle.mac_wire.specs.Reply.{IsReply};
 ghost use Rattle.mac_decide.specs.Prepared.{reply_to_job};
 ghost use Rattle.mac_decide.specs.Viewed.{viewed};
-ghost use Rattle.mac_plain.specs.declared.request.Request.{Request};
+ghost use Rattle.mac_plain.specs.declared.request.RoundRequest.{RoundRequest};
 ghost use Rattle.mac_plain.specs.Goes.{AreAnswered};
 ghost use Rattle.mac_plain.specs.Requests.{AreReplies, asked_of, job_at, jobs_at};
 ghost use Rattle.mac_plain.specs.RoundView.{LieWithin, LiesIn, asked_in, job_in, jobs_in, up_in};
@@ -13,9 +13,9 @@ ghost use Rattle.mac_plain.specs.RoundView.{LieWithin, LiesIn, asked_in, job_in,
 use crate::NoMemory;
 use crate::client::Client;
 use crate::port::Port;
-use crate::request::{Request, RoundView};
+use crate::request::{RoundRequest, RoundView};
 use crate::sharing::answer_shared;
-use crate::tally::Tally;
+use crate::tally::RequestTally;
 use arrayvec::ArrayVec;
 use mac_decide::{
     ArrivalView, JobView, RUN, Revocation, Rooms, SeenTokens, Terms, answer_one, answer_run,
@@ -38,7 +38,7 @@ pub struct Bench {
     pub alloc: Global,
     pub rooms: Rooms,
     pub seen: SeenTokens,
-    pub tally: Tally,
+    pub tally: RequestTally,
 }
 
 impl Bench {
@@ -106,7 +106,7 @@ fn answer_rest<R: Threads + Sync, P: Port>(
 }
 
 /// How many bytes the requests stand in.
-fn span(requests: &[Request]) -> usize {
+fn span(requests: &[RoundRequest]) -> usize {
     match (requests.first(), requests.last()) {
         (Some(first), Some(last)) => last.end.saturating_sub(first.start),
         _ => 0,
@@ -220,7 +220,7 @@ fn jobs_of_run<'a, P: Port>(
 /// The job of a request, under the rights of its client; without a client it asks nothing.
 fn job_of_request<'a, P: Port>(
     round: RoundView<'a>,
-    request: &Request,
+    request: &RoundRequest,
     clients: &'a [Client<P>],
 ) -> JobView<'a>
     requires within { LiesIn round request.now }
@@ -275,7 +275,7 @@ fn answer_alone<P: Port>(bench: &mut Bench, one: RoundView<'_>, clients: &mut [C
 fn reply_to<P: Port>(
     bench: &mut Bench,
     round: RoundView<'_>,
-    request: &Request,
+    request: &RoundRequest,
     clients: &[Client<P>],
 ) -> Result<Reply, NoMemory>
     requires within { LiesIn round request.now }
@@ -291,7 +291,7 @@ fn reply_to<P: Port>(
 
 /// Gives each client the replies to its own requests, in order. Where one is missing the client has
 /// fallen.
-fn hand_out<P: Port>(run: &[Request], replies: &[Reply], clients: &mut [Client<P>])
+fn hand_out<P: Port>(run: &[RoundRequest], replies: &[Reply], clients: &mut [Client<P>])
     requires { All IsReply replies.now }
     ensures { (current : PlainCurrent) (arena : List ℕ)
         → AreReplies (jobs_at current clients.old arena run.now) replies.now
@@ -313,11 +313,11 @@ fn reply_at(replies: &[Reply], index: usize) -> Option<&Reply>
 }
 
 /// Gives a request's client the reply to it.
-fn give<P: Port>(one: &[Request], reply: Option<&Reply>, clients: &mut [Client<P>])
+fn give<P: Port>(one: &[RoundRequest], reply: Option<&Reply>, clients: &mut [Client<P>])
     requires reply { IfSome reply (λ r. IsReply r.now) }
     requires one { length one.now ≡ 1 }
-    ensures { (current : PlainCurrent) (arena : List ℕ) (request : Request) → one.now ≡ request ∷ []
-        → IfSome reply.entry (λ r. r.now
+    ensures { (current : PlainCurrent) (arena : List ℕ) (request : RoundRequest)
+        → one.now ≡ request ∷ [] → IfSome reply.entry (λ r. r.now
         ≡ reply_to_job (job_at current arena request (slice_get clients.old request.owner)))
         → AreAnswered P.tells P.taken P.written current
         (λ k. asked_of k arena one.now) clients.old clients.new }

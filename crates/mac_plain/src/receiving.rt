@@ -11,7 +11,7 @@ use crate::client::Client;
 use crate::course::{Course, Ended, Fall};
 use crate::dear::is_dear;
 use crate::port::{Came, Port};
-use crate::request::Request;
+use crate::request::RoundRequest;
 use mac_wire::{Cut, FRAME_MAX, Session, next_frame, opened};
 
 /// Reads a client once, where it is open, and cuts what has come into requests. Where it may carry
@@ -20,7 +20,7 @@ pub fn receive<P: Port>(
     client: &mut Client<P>,
     piece: &mut [u8],
     arena: &mut Vec<u8>,
-    requests: &mut Vec<Request>,
+    requests: &mut Vec<RoundRequest>,
     owner: usize,
 )
     requires { AreWithin (length arena.old.items) requests.old.items }
@@ -54,7 +54,7 @@ fn take_in(
     session: &mut Session,
     piece: &[u8],
     arena: &mut Vec<u8>,
-    requests: &mut Vec<Request>,
+    requests: &mut Vec<RoundRequest>,
     owner: usize,
 ) -> Course
     requires { AreWithin (length arena.old.items) requests.old.items }
@@ -121,7 +121,7 @@ fn cut_requests(
     arena: &[u8],
     from: usize,
     owner: usize,
-    requests: &mut Vec<Request>,
+    requests: &mut Vec<RoundRequest>,
 ) -> Result<(usize, Course), NoMemory>
     requires { from ≤ length arena.now }
     ensures { Cuts arena.now from owner requests.old.items requests.new.items result }
@@ -135,7 +135,7 @@ fn cut_requests(
                 }
                 let end = arena.len() - rest.len();
                 let start = end - payload.len();
-                requests.push(Request { owner, start, end })?;
+                requests.push(RoundRequest { owner, start, end })?;
                 at = end;
             }
             Cut::Unfinished => return Ok((at, Course::Open)),

@@ -4,7 +4,7 @@ use mac_board::Current;
 
 /// One request: whose it is, and where its payload lies in what was read.
 #[derive(Clone, Copy)]
-pub struct Request {
+pub struct RoundRequest {
     /// The index of its client.
     pub owner: usize,
     /// Where its payload begins.
@@ -21,5 +21,5 @@ pub struct RoundView<'a> {
     /// What was read, in which the payloads lie.
     pub arena: &'a [u8],
     /// The requests.
-    pub requests: &'a [Request],
+    pub requests: &'a [RoundRequest],
 }

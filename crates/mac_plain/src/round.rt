@@ -19,10 +19,10 @@ use crate::answering::{Bench, answer_requests};
 use crate::client::Client;
 use crate::port::Port;
 use crate::receiving::receive;
-use crate::request::{Request, RoundView};
-use crate::tally::{Tally, request_of};
+use crate::request::{RoundRequest, RoundView};
+use crate::tally::{RequestTally, request_of};
 use mac_board::{Current, Outlook};
-use mac_count::{REQUESTS, Request as Counted};
+use mac_count::{AnsweredRequest as Counted, REQUESTS};
 use mac_decide::{
     ArrivalView, JobView, Macaroons, Rooms, SEEN_MAX, SeenTokens, count_answer, remember_answer,
 };
@@ -54,7 +54,7 @@ pub struct RoundTerms {
 #[derive(Drop)]
 struct Intake {
     arena: Vec<u8>,
-    requests: Vec<Request>,
+    requests: Vec<RoundRequest>,
 }
 
 /// What a loop keeps from round to round: room for what it reads, and for what answering asks for.
@@ -82,7 +82,7 @@ impl Round {
                 alloc,
                 rooms: Rooms::new(alloc, seen.share()?),
                 seen,
-                tally: Tally::new(),
+                tally: RequestTally::new(),
             },
             learned: 0,
         })

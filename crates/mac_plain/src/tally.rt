@@ -6,22 +6,22 @@ ghost use Rattle.mac_decide.specs.Viewed.{arrival_of, viewed};
 ghost use Rattle.mac_plain.specs.Tally.{asked_by, asked_as, counts_of, request_of, requests_of};
 ghost use Rattle.mac_plain.specs.Tally.{told_by};
 
-use mac_count::{Asked, REQUESTS, Request, RequestCounts, Told};
+use mac_count::{AnsweredRequest, Asked, REQUESTS, RequestCounts, Told};
 use mac_decide::{ArrivalView, JobView};
 use mac_wire::{Reply, RequestKind, request_kind};
 
 /// How many of each kind.
 #[derive(Drop)]
-pub struct Tally {
+pub struct RequestTally {
     counts: RequestCounts,
 }
 
-impl Tally {
+impl RequestTally {
     /// None yet.
-    pub fn new() -> Tally
+    pub fn new() -> RequestTally
         ensures { counts_of result ≡ no_counts }
     {
-        Tally {
+        RequestTally {
             counts: RequestCounts::new(),
         }
     }
@@ -54,10 +54,10 @@ impl Tally {
 }
 
 /// A job with its reply, as it is counted.
-pub(crate) fn request_of(job: &JobView<'_>, reply: &Reply) -> Request
+pub(crate) fn request_of(job: &JobView<'_>, reply: &Reply) -> AnsweredRequest
     ensures { result ≡ request_of (viewed job.now) reply.now }
 {
-    Request {
+    AnsweredRequest {
         asked: asked_by(&job.arrival),
         told: told_by(reply),
     }

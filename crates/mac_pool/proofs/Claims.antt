@@ -1,8 +1,8 @@
 -- What a pass has claimed grows by one ticket after another, and each is answered.
 use Rattle.std.proofs.Common.{◌≡◌, ℕ, ◌+◌, ◌<◌, ◌^◌, List, [], length, ◌∷◌, ◌++◌, map, length-append, sym, ◌∙◌, ap, refl, subst, arith, append_assoc, append-nil}
 use Rattle.std.proofs.lemmas.List.{length-map}
-use Rattle.mac_mail.specs.Mail.{Mail}
-use Rattle.mac_mail.specs.declared.receipt.Delivery.{Delivery}
+use Rattle.mac_queue.specs.Mail.{Mail}
+use Rattle.mac_queue.specs.declared.receipt.Delivery.{Delivery}
 use Rattle.mac_queue.specs.Balance.{entry_of}
 use Rattle.mac_queue.specs.Pass.{Pass, with_claimed}
 use Rattle.mac_queue.specs.declared.ticket.Ticket.{Ticket}

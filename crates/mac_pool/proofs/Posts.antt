@@ -1,10 +1,10 @@
 -- What was posted answers what was claimed.
 use Rattle.std.proofs.Common.{◌≡◌, ◌⊎◌, inl, inr, List, [], ◌∷◌, ◌++◌, None, Some, map, sym, ◌∙◌, ap, subst, ⊎_elim, append-nil, append_assoc}
 use Rattle.std.specs.Arc.{arc_value}
-use Rattle.mac_mail.specs.Mail.{Mail}
-use Rattle.mac_mail.specs.Post.{entry_of}
-use Rattle.mac_mail.specs.declared.receipt.Delivery.{Delivery}
-use Rattle.mac_mail.specs.declared.receipt.Delivery.TheVariants.{Posted, Closed}
+use Rattle.mac_queue.specs.Mail.{Mail}
+use Rattle.mac_queue.specs.Post.{entry_of}
+use Rattle.mac_queue.specs.declared.receipt.Delivery.{Delivery}
+use Rattle.mac_queue.specs.declared.receipt.Delivery.TheVariants.{Posted, Closed}
 use Rattle.mac_queue.specs.Balance.{entry_of as claim_of}
 use Rattle.mac_queue.specs.declared.ticket.Ticket.{Ticket}
 use Rattle.mac_pool.specs.declared.work.Parcel.{Parcel}

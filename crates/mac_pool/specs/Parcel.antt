@@ -1,10 +1,10 @@
 -- What a worker makes of tickets.
 use Rattle.std.specs.Prelude.{◌≡◌, ◌⊎◌, ⊤, ℕ, List, [], ◌∷◌, ◌++◌, None, Some}
 use Rattle.std.specs.Arc.{arc_value}
-use Rattle.mac_mail.specs.Mail.{Mail}
-use Rattle.mac_mail.specs.Post.{entry_of, IsDelivered}
-use Rattle.mac_mail.specs.declared.receipt.Delivery.{Delivery}
-use Rattle.mac_mail.specs.declared.receipt.Delivery.TheVariants.{Posted, Closed}
+use Rattle.mac_queue.specs.Mail.{Mail}
+use Rattle.mac_queue.specs.Post.{entry_of, IsDelivered}
+use Rattle.mac_queue.specs.declared.receipt.Delivery.{Delivery}
+use Rattle.mac_queue.specs.declared.receipt.Delivery.TheVariants.{Posted, Closed}
 use Rattle.mac_queue.specs.declared.ticket.Ticket.{Ticket}
 use Rattle.mac_pool.specs.declared.work.Label.{Label}
 use Rattle.mac_pool.specs.declared.work.Parcel.{Parcel}

@@ -1,6 +1,6 @@
 -- What a worker did with the tickets that it claimed.
 use Rattle.std.specs.Prelude.{◌≡◌, ℕ, List, ◌∷◌, ◌++◌, length, map}
-use Rattle.mac_mail.specs.declared.receipt.Delivery.{Delivery}
+use Rattle.mac_queue.specs.declared.receipt.Delivery.{Delivery}
 use Rattle.mac_queue.specs.Balance.{entry_of}
 use Rattle.mac_queue.specs.Pass.{Pass, HasClaimed}
 use Rattle.mac_queue.specs.declared.ticket.Ticket.{Ticket}

@@ -4,8 +4,7 @@ ghost use Rattle.std.specs.Prelude.{◌≡◌, ◌+◌, ◌*◌};
 
 use crate::pool::{DESKS_MAX, WORKERS_MAX};
 use crate::work::TURN_MAX;
-use mac_mail::MAIL_MAX;
-use mac_queue::{PASSES, QUEUE_MAX};
+use mac_queue::{MAIL_MAX, PASSES, QUEUE_MAX};
 
 /// A pool has up to 16 workers and 64 desks. Its queue has a pass for each of them, and room for as
 /// many tickets as the mailboxes of all desks hold posts.

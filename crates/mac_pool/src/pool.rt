@@ -4,16 +4,15 @@ ghost use Rattle.std.specs.Prelude.{◌≡◌, ◌≢◌, ◌+◌, ◌≤◌, �
 ghost use Rattle.mac_pool.specs.Pool.{IsStarted, IsStopped, IsFinished, IsGiven, IsHome, IsBrought, AreOut, AreIdle, at_home, with_home};
 ghost use Rattle.std.specs.Arc.{arc_value};
 ghost use Rattle.std.specs.Vec.{vec_capacity};
-ghost use Rattle.mac_mail.specs.Taking.{fresh_taking};
+ghost use Rattle.mac_queue.specs.Taking.{fresh_taking};
 ghost use Rattle.mac_queue.specs.Putting.{pass_of};
 ghost use Rattle.mac_pool.specs.Working.{HasWorked};
 
 use crate::fault::{DeskFault, PoolFault};
 use crate::passes::{Slots, bring_home, first_home, home_count, slots_of, take_out};
 use crate::work::{Worked, worker};
-use mac_mail::History;
 use mac_order::{NoMemory, Service};
-use mac_queue::{Desk, PASSES, Queue, QueuePass, Tally};
+use mac_queue::{Desk, History, PASSES, Queue, QueuePass, Tally};
 use std::alloc::Global;
 use std::marker::Model;
 use std::snapshot::Snapshot;

@@ -2,14 +2,13 @@
 
 ghost use Rattle.std.specs.Prelude.{◌≡◌, ◌+◌, ◌++◌, ◌≤◌, List, []};
 ghost use Rattle.std.specs.VecDeque.{deque_len, deque_capacity};
-ghost use Rattle.mac_mail.specs.Post.{IsDelivered};
+ghost use Rattle.mac_queue.specs.Post.{IsDelivered};
 ghost use Rattle.mac_queue.specs.Balance.{entry_of};
 ghost use Rattle.mac_pool.specs.Parcel.{IsAnswered, IsSent, HasPosted};
 
 use crate::work::{Mails, Parcel, Parcels};
-use mac_mail::{Delivery, History, Mailbox, Post};
 use mac_order::Service;
-use mac_queue::Ticket;
+use mac_queue::{Delivery, History, Mailbox, Post, Ticket};
 use std::sync::Wait;
 
 /// Posts that there was no memory for the ticket.

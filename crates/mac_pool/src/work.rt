@@ -9,9 +9,8 @@ ghost use Rattle.mac_pool.specs.Working.{with_tickets, HasTurned, HasWorked};
 ghost use Rattle.mac_pool.specs.declared.work.TheConstants.{TURN_MAX};
 
 use crate::posting::{give_up, post_all, ring_all};
-use mac_mail::{Delivery, History, Mailbox, Post};
 use mac_order::{Answer, NoMemory, Service};
-use mac_queue::{Claim, Queue, QueuePass, Ticket};
+use mac_queue::{Claim, Delivery, History, Mailbox, Post, Queue, QueuePass, Ticket};
 use std::alloc::Global;
 use std::collections::VecDeque;
 use std::sync::{Arc, Wait};
@@ -53,7 +52,8 @@ pub type Mails<S> = VecDeque<Arc<Mailbox<S>, Global>>;
 /// The room of a turn: what is claimed, what is to be posted, and the mailboxes that are to be
 /// rung.
 #[derive(Drop)]
-pub struct Turn<S: Service> {
+pub struct TurnRoom<S: Service> {
+    alloc: Global,
     tickets: Tickets<S>,
     parcels: Parcels<S>,
     owed: Mails<S>,
@@ -63,12 +63,13 @@ pub struct Turn<S: Service> {
         × (TURN_MAX ≤ deque_capacity owed) },
 }
 
-impl<S: Service> Turn<S> {
-    fn new(alloc: Global) -> Result<Turn<S>, NoMemory> {
+impl<S: Service> TurnRoom<S> {
+    fn new(alloc: Global) -> Result<TurnRoom<S>, NoMemory> {
         let tickets = VecDeque::with_capacity(alloc, TURN_MAX)?;
         let parcels = VecDeque::with_capacity(alloc, TURN_MAX)?;
         let owed = VecDeque::with_capacity(alloc, TURN_MAX)?;
-        Ok(Turn {
+        Ok(TurnRoom {
+            alloc,
             tickets,
             parcels,
             owed,
@@ -90,7 +91,7 @@ pub fn worker<S: Service, R: Wait>(
     queue.enter();
     let mut claimed = 0;
     let mut deliveries = History::new();
-    let mut room = Turn::new(alloc).ok();
+    let mut room = TurnRoom::new(alloc).ok();
     for _ in rt.forever() {
         let ticket = match next_ticket(rt, queue, &mut pass) {
             Some(ticket) => ticket,
@@ -107,11 +108,11 @@ pub fn worker<S: Service, R: Wait>(
         match &mut room {
             Some(turn) => {
                 let book = &mut deliveries;
-                claimed += turn_from(rt, alloc, queue, &mut pass, turn, ticket, book);
+                claimed += turn_from(rt, queue, &mut pass, turn, ticket, book);
             }
             None => {
                 deliveries.add(&give_up(rt, ticket));
-                room = Turn::new(alloc).ok();
+                room = TurnRoom::new(alloc).ok();
             }
         }
     }
@@ -157,10 +158,9 @@ fn next_ticket<S: Service, R: Wait>(
 /// Answers how many others.
 fn turn_from<S: Service, R: Wait>(
     rt: &R,
-    alloc: Global,
     queue: &Queue<S>,
     pass: &mut QueuePass<S>,
-    turn: &mut Turn<S>,
+    turn: &mut TurnRoom<S>,
     ticket: Ticket<S>,
     book: &mut History<Delivery<S>>,
 ) -> u64
@@ -175,7 +175,7 @@ fn turn_from<S: Service, R: Wait>(
     if waiting > others {
         queue.ring();
     }
-    answer_all(alloc, &mut turn.tickets, &mut turn.parcels);
+    answer_all(turn.alloc, &mut turn.tickets, &mut turn.parcels);
     post_all(rt, &mut turn.parcels, &mut turn.owed, book);
     ring_all(&mut turn.owed);
     claimed

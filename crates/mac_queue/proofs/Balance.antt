@@ -9,7 +9,7 @@ use Rattle.crossbeam_queue.proofs.Lists.{at_set, at_snoc}
 use Rattle.mac_queue.specs.declared.queue.account.Account.{Account}
 use Rattle.mac_queue.specs.declared.queue.TheConstants.{PASSES, PUTS_MAX}
 use Rattle.mac_queue.specs.declared.ticket.Ticket.{Ticket}
-use Rattle.mac_mail.specs.Mail.{Mail}
+use Rattle.mac_queue.specs.Mail.{Mail}
 use Rattle.mac_queue.specs.Balance.{account, entry_of, IsWithin, IsBalanced, IsAll}
 use Rattle.mac_queue.proofs.Totals.{total_set, part_of_total, total_within, total_nothing, ones}
 

@@ -6,3 +6,8 @@ pub mod Balance
 pub mod Claim
 pub mod Desk
 pub mod Tally
+pub mod Fault
+pub mod History
+pub mod Mail
+pub mod Post
+pub mod Taking

@@ -3,7 +3,7 @@ use Rattle.std.specs.Prelude.{◌≡◌, ℕ, List, [], ◌∷◌, ◌++◌, len
 use Rattle.std.specs.List.{flat_map}
 use Rattle.std.specs.Coded.{Coded, code_by, coded×, coded_list, coded_ℕ}
 use Rattle.atomic_table.specs.Seated.{TableId, table_id_coded}
-use Rattle.mac_mail.specs.Mail.{Mail, mail_code}
+use Rattle.mac_queue.specs.Mail.{Mail, mail_code}
 
 -- a pass: its queue, its seat there, its number, the entries that it put, and those that it claimed,
 -- each a place and the job there with the mailbox for its answer

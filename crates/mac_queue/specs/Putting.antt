@@ -2,7 +2,7 @@
 use Rattle.std.specs.Prelude.{◌≡◌, ℕ, List, [], ◌∷◌, ◌++◌, refl}
 use Rattle.std.specs.Coded.{Coded, code_by, coded×}
 use Rattle.atomic_table.specs.Seated.{TableId}
-use Rattle.mac_mail.specs.Mail.{Mail, mail_code}
+use Rattle.mac_queue.specs.Mail.{Mail, mail_code}
 use Rattle.mac_queue.specs.Pass.{Pass, pass_code, IsSamePass}
 
 -- a putter: its pass, as `Pass` has it, and the mailbox for the answers to what it puts

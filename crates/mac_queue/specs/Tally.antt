@@ -1,6 +1,6 @@
 -- What a tally tells.
 use Rattle.std.specs.Prelude.{◌≡◌, ℕ, List, length}
-use Rattle.mac_mail.specs.Mail.{Mail}
+use Rattle.mac_queue.specs.Mail.{Mail}
 use Rattle.mac_queue.specs.Lists.{IsSplitInto}
 use Rattle.mac_queue.specs.Pass.{Pass, all_put, all_claimed}
 use Rattle.mac_queue.specs.declared.queue.tally.Tally.{Tally}

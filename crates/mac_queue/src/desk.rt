@@ -2,12 +2,15 @@
 
 ghost use Rattle.std.specs.Prelude.{◌≡◌, length, IfOk, IfErr, OnOk, OnErr};
 ghost use Rattle.std.specs.Arc.{arc_value};
-ghost use Rattle.mac_mail.specs.Taking.{fresh_taking};
+ghost use Rattle.mac_queue.specs.Taking.{fresh_taking};
 ghost use Rattle.mac_queue.specs.Putting.{pass_of, putting_of, with_put};
 
+use crate::bell::AnnouncedWait;
+use crate::fault::PutFault;
+use crate::mailbox::Mailbox;
 use crate::queue::{PUTS_MAX, Queue, QueuePass};
+use crate::taker::Taker;
 use crate::ticket::Ticket;
-use mac_mail::{Mailbox, Notice, PutFault, Taker};
 use mac_order::Service;
 use std::alloc::Global;
 use std::marker::Model;
@@ -114,17 +117,17 @@ impl<S: Service> Putter<S> {
 
     /// Announces a wait until so many posts have come. Look once more after it, and then sleep, or
     /// withdraw where that is done.
-    pub fn announce(&self, count: u64) -> Notice {
+    pub fn announce(&self, count: u64) -> AnnouncedWait {
         self.mail.announce_answers(count)
     }
 
     /// Sleeps until these posts may have come, or the taker rings.
-    pub fn sleep<R: Wait>(&self, rt: &R, notice: Notice) {
+    pub fn sleep<R: Wait>(&self, rt: &R, notice: AnnouncedWait) {
         self.mail.sleep_answers(rt, notice);
     }
 
     /// Ends a wait for posts that have come.
-    pub fn withdraw(&self, notice: Notice) {
+    pub fn withdraw(&self, notice: AnnouncedWait) {
         self.mail.withdraw_answers(notice);
     }
 

@@ -2,16 +2,18 @@
 
 ghost use Rattle.std.specs.Prelude.{◌≡◌, ◌≢◌, ◌+◌, ◌-◌, ◌≤◌, ◌<◌, ◌^◌, [], length, IfErr, IfOk, OnOk, OnErr};
 ghost use Rattle.mac_queue.specs.Balance.{account, entry_of};
-ghost use Rattle.mac_mail.specs.Fault.{IsSoFound};
+ghost use Rattle.mac_queue.specs.Fault.{IsSoFound};
 ghost use Rattle.mac_queue.specs.Claim.{after_claim, IsSoClaimed};
 ghost use Rattle.mac_queue.specs.Pass.{with_put, AreFresh};
 ghost use Rattle.crossbeam_queue.specs.Passes.{view as what, IsPassOf};
 
-use self::account::{Balance, Books, Claims, Cut, Puts};
+use self::account::{Balance, Books, Claims, CutOff, Puts};
+use crate::bell::{AnnouncedWait, Bell};
+use crate::closing::{Closed, Closing, Open};
+use crate::fault::PutFault;
 use crate::ticket::Ticket;
 use crossbeam_queue::protocol::Free;
 use crossbeam_queue::{Pass, RuledArrayQueue};
-use mac_mail::{Bell, Closed, Closing, Notice, Open, PutFault};
 use mac_order::{NoMemory, Service};
 use std::alloc::Global;
 use std::marker::Model;
@@ -198,17 +200,17 @@ impl<S: Service> Queue<S> {
 
     /// Announces a wait for a ticket. Claim once more after it, and then sleep, or withdraw where
     /// there was a ticket or the queue is closed.
-    pub fn announce(&self) -> Notice {
+    pub fn announce(&self) -> AnnouncedWait {
         self.tickets.announce()
     }
 
     /// Sleeps until a ring after the announcement. It may return for no reason: claim again.
-    pub fn sleep<R: Wait>(&self, rt: &R, notice: Notice) {
+    pub fn sleep<R: Wait>(&self, rt: &R, notice: AnnouncedWait) {
         self.tickets.sleep(rt, notice);
     }
 
     /// Ends a wait that found something.
-    pub fn withdraw(&self, notice: Notice) {
+    pub fn withdraw(&self, notice: AnnouncedWait) {
         self.tickets.withdraw(notice);
     }
 
@@ -254,7 +256,7 @@ fn passes_of<S: Service>(
 {
     let mut passes = Vec::with_capacity(alloc, PASSES)?;
     for number in 0..PASSES - 1 {
-        let seat = cells.another::<Cut>(&mut rest);
+        let seat = cells.another::<CutOff>(&mut rest);
         passes.push(QueuePass {
             seat,
             number,

@@ -1,6 +1,6 @@
 //! What stands in the queue.
 
-use mac_mail::Mailbox;
+use crate::mailbox::Mailbox;
 use mac_order::Service;
 use std::alloc::Global;
 use std::sync::Arc;

@@ -3,7 +3,7 @@ use Rattle.std.proofs.Common.{◌≡◌, ℕ, zero, suc, ◌+◌, ◌<◌, ◌�
 use Rattle.std.specs.List.{sum_by, flat_map}
 use Rattle.std.proofs.lemmas.List.Sums.{sum_by-cons, sum_by-append}
 use Rattle.atomic_table.specs.Seated.{TableId}
-use Rattle.mac_mail.specs.Mail.{Mail}
+use Rattle.mac_queue.specs.Mail.{Mail}
 use Rattle.mac_queue.specs.Pass.{Pass, IsFresh, all_put, all_claimed}
 use Rattle.mac_queue.specs.Putting.{pass_of}
 use Rattle.mac_queue.specs.declared.queue.TheConstants.{PASSES}

@@ -5,8 +5,8 @@ use Rattle.std.specs.declared.alloc.Global.{Global}
 use Rattle.std.specs.declared.vec.Vec.{Vec}
 use Rattle.std.proofs.Math.Seq.{take-append-add, take-length}
 use Rattle.std.proofs.lemmas.List.{map-append}
-use Rattle.mac_ring.specs.Ring.{admitted, IsSameIntake}
-use Rattle.mac_mail.specs.Mail.{Mail}
+use Rattle.mac_order.specs.Ring.{admitted, IsSameIntake}
+use Rattle.mac_queue.specs.Mail.{Mail}
 use Rattle.mac_queue.specs.Putting.{Putting, IsSamePutter, with_put}
 use Rattle.mac_board.specs.Noticed.{Current, IsCurrent, Noticed, Notices}
 use Rattle.mac_wire.specs.declared.arrival.Arrival.{Arrival}

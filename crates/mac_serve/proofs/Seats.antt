@@ -7,7 +7,7 @@ use Rattle.mac_queue.proofs.Totals.{ones}
 use Rattle.mac_decide.specs.declared.job.Job.{Job}
 use Rattle.mac_decide.specs.declared.macaroons.Macaroons.{Macaroons}
 use Rattle.mac_wire.specs.declared.reply.Reply.{Reply}
-use Rattle.mac_mail.specs.Taking.{Taking, fresh_taking}
+use Rattle.mac_queue.specs.Taking.{Taking, fresh_taking}
 use Rattle.mac_queue.specs.Desk.{IsSameDesk}
 use Rattle.mac_queue.specs.Pass.{Pass, IsSamePass}
 use Rattle.mac_queue.specs.Putting.{Putting, pass_of}

@@ -7,13 +7,13 @@ use Rattle.std.specs.declared.vec.Vec.{Vec}
 use Rattle.std.specs.declared.alloc.Global.{Global}
 use Rattle.std.proofs.lemmas.Option.{slice_get-map}
 use Rattle.std.specs.Option.{option_map}
-use Rattle.mac_mail.specs.Taking.{Taking, with_posts, with_taken}
-use Rattle.mac_ring.proofs.Releases.{item_is}
+use Rattle.mac_queue.specs.Taking.{Taking, with_posts, with_taken}
+use Rattle.mac_order.proofs.Releases.{item_is}
 use Rattle.std.proofs.lemmas.List.{append-nil, map-append, take-append-le, length-append, length-map, length-take-le, append_cancel_left}
 use Rattle.mac_order.specs.Buffer.{Buffer, fresh_buffer, settled, settle_fault, sent_off, closed_off}
 use Rattle.mac_order.specs.declared.fault.SettleFault.{SettleFault}
-use Rattle.mac_ring.specs.Ring.{Exit, received, IsSameOutlet, IsKept}
-use Rattle.mac_ring.specs.declared.numbered.Numbered.{Numbered}
+use Rattle.mac_order.specs.Ring.{Exit, received, IsSameOutlet, IsKept}
+use Rattle.mac_order.specs.declared.numbered.Numbered.{Numbered}
 use Rattle.mac_wire.specs.Frame.{frame, framed}
 use Rattle.mac_wire.specs.Reply.{IsReply, placed_payload, payloads_from, reply_frame}
 use Rattle.mac_wire.proofs.Wholes.{Fits}

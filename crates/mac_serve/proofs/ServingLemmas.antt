@@ -3,9 +3,9 @@ use Rattle.std.proofs.Common.{◌≡◌, ◌≢◌, inl, inr, ℕ, ◌+◌, ◌�
 use Rattle.std.specs.Prelude.{Option, Some, None, Result, Ok, Err, OnOk, IfOk, IfSome, IsSome, ◌⊎◌}
 use Rattle.std.proofs.lemmas.List.{map-append, take_all, take-append-le, take-append-drop, length-append, length-map, length-take-le}
 use Rattle.std.proofs.lemmas.List.Concat.{flat_map-append}
-use Rattle.mac_ring.specs.Ring.{admitted, received}
-use Rattle.mac_mail.specs.Taking.{Taking}
-use Rattle.mac_mail.specs.Mail.{Mail}
+use Rattle.mac_order.specs.Ring.{admitted, received}
+use Rattle.mac_queue.specs.Taking.{Taking}
+use Rattle.mac_queue.specs.Mail.{Mail}
 use Rattle.mac_queue.specs.Putting.{Putting, IsSamePutter}
 use Rattle.mac_board.specs.Noticed.{Noticed}
 use Rattle.mac_wire.specs.declared.arrival.Arrival.{Arrival}

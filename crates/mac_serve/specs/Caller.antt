@@ -11,7 +11,7 @@ use Rattle.mac_serve.specs.declared.connection.Served.{Served}
 use Rattle.mac_serve.specs.Receiving.{TakesUnder}
 use Rattle.mac_serve.specs.Serving.{HasServed}
 use Rattle.mac_serve.specs.declared.caller.Caller.{Caller}
-use Rattle.mac_serve.specs.declared.caller.Told.{Told}
+use Rattle.mac_serve.specs.declared.caller.ServeReport.{ServeReport}
 
 -- what the devices of connections tell: what a source gave, what a sink took, and what is known of
 -- tables and clock; and whether each tells it
@@ -40,7 +40,7 @@ pub record Stay : Type 0 where
   pub back : Desk Macaroons Job Reply
 
 -- what `serve` told, with the desk that it gave back
-abbrev pub served_with : Told → Desk Macaroons Job Reply → Served
+abbrev pub served_with : ServeReport → Desk Macaroons Job Reply → Served
 served_with told desk = record {
   arrived = told.arrived;
   sent = told.sent;
@@ -65,7 +65,7 @@ module _ {In Out K : Type 0} (d : Devices In Out K) where
   -- written is a beginning of the framed replies to what was read, all of them where it ended well,
   -- and what it put and took at its desk are its own jobs and their answers, as `HasServed` has it.
   pub record IsAttended (before after : Caller In Out K) (stay : Stay) : Type 0 where
-    pub told : Told
+    pub told : ServeReport
     pub told_is : after.told ≡ Some told
     pub session : Session
     pub stands : Stands session [] [] [] []

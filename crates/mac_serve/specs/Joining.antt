@@ -1,6 +1,6 @@
 -- A connection that was answered elsewhere before, and then served.
 use Rattle.std.specs.Prelude.{◌≡◌, ◌⊎◌, ℕ, Bool, List, [], ◌++◌, Option, Some, None, IfSome}
-use Rattle.mac_mail.specs.Taking.{Taking}
+use Rattle.mac_queue.specs.Taking.{Taking}
 use Rattle.mac_queue.specs.Putting.{Putting}
 use Rattle.mac_board.specs.Noticed.{Noticed}
 use Rattle.mac_wire.specs.declared.arrival.Arrival.{Arrival}

@@ -2,8 +2,8 @@
 use Rattle.std.specs.Prelude.{◌≡◌, ◌≢◌, ◌⊎◌, ℕ, ◌+◌, ◌≤◌, Bool, IsTrue, List, [], ◌∷◌, ◌++◌, length, map, take, Option, Some, None, Result, Ok, Err, IfOk, OnOk}
 use Rattle.std.specs.declared.alloc.Global.{Global}
 use Rattle.std.specs.declared.vec.Vec.{Vec}
-use Rattle.mac_ring.specs.Ring.{admitted, IsSameIntake}
-use Rattle.mac_mail.specs.Mail.{Mail}
+use Rattle.mac_order.specs.Ring.{admitted, IsSameIntake}
+use Rattle.mac_queue.specs.Mail.{Mail}
 use Rattle.mac_queue.specs.Putting.{IsSamePutter}
 use Rattle.mac_board.specs.Noticed.{Current, IsCurrent, Noticed, Notices}
 use Rattle.mac_wire.specs.declared.arrival.Arrival.{Arrival}

@@ -3,7 +3,7 @@ use Rattle.std.specs.Prelude.{◌≡◌, ℕ, ◌+◌, ◌<◌, List, length, So
 use Rattle.std.specs.List.{sum_by}
 use Rattle.mac_decide.specs.declared.job.Job.{Job}
 use Rattle.mac_decide.specs.declared.macaroons.Macaroons.{Macaroons}
-use Rattle.mac_mail.specs.Taking.{fresh_taking}
+use Rattle.mac_queue.specs.Taking.{fresh_taking}
 use Rattle.mac_queue.specs.Desk.{IsSameDesk}
 use Rattle.mac_queue.specs.Pass.{Pass}
 use Rattle.mac_queue.specs.Putting.{pass_of}

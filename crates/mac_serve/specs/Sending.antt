@@ -1,8 +1,8 @@
 -- How the outbound half of a connection stands, and how it ends.
 use Rattle.std.specs.Prelude.{◌≡◌, ◌≢◌, ◌⊎◌, ℕ, ◌+◌, ◌≤◌, Bool, false, List, [], ◌++◌, length, map, take, Option, Some, Contains, Result, Ok, Err, IsTrue, MatchResult, OnOk}
 use Rattle.std.specs.FinMap.{get}
-use Rattle.mac_mail.specs.Taking.{Taking, with_posts}
-use Rattle.mac_ring.specs.Ring.{received, IsKept, IsSameOutlet}
+use Rattle.mac_queue.specs.Taking.{Taking, with_posts}
+use Rattle.mac_order.specs.Ring.{received, IsKept, IsSameOutlet}
 use Rattle.mac_wire.specs.declared.reply.Reply.{Reply}
 use Rattle.mac_wire.specs.Frame.{framed}
 use Rattle.mac_wire.specs.Reply.{payloads_from}

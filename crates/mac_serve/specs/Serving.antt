@@ -1,6 +1,6 @@
 -- What a run of `serve` did, for its callers.
 use Rattle.std.specs.Prelude.{◌≡◌, ◌⊎◌, ℕ, ◌+◌, ◌≤◌, Bool, if◌then◌else◌, List, [], ◌++◌, length, map, take, Option, Some, None, Result, Ok, Err, IfSome, IsSome}
-use Rattle.mac_mail.specs.Taking.{Taking, with_posts}
+use Rattle.mac_queue.specs.Taking.{Taking, with_posts}
 use Rattle.mac_queue.specs.Putting.{Putting, IsSamePutter}
 use Rattle.mac_wire.specs.declared.arrival.Arrival.{Arrival}
 use Rattle.mac_wire.specs.declared.arrival.Ending.{Ending}

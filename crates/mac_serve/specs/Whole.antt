@@ -3,8 +3,8 @@ use Rattle.std.specs.Prelude.{◌≡◌, ℕ, List, length, Some, slice_get}
 use Rattle.std.specs.List.{flat_map}
 use Rattle.atomic_table.specs.Seated.{TableId}
 use Rattle.mac_queue.specs.Lists.{IsSplitInto}
-use Rattle.mac_mail.specs.Mail.{Mail}
-use Rattle.mac_mail.specs.Taking.{fresh_taking}
+use Rattle.mac_queue.specs.Mail.{Mail}
+use Rattle.mac_queue.specs.Taking.{fresh_taking}
 use Rattle.mac_queue.specs.Pass.{IsFresh, all_claimed}
 use Rattle.mac_queue.specs.Putting.{pass_of}
 use Rattle.mac_queue.specs.declared.queue.tally.Tally.{Tally}

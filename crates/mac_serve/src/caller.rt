@@ -26,13 +26,13 @@ pub struct Caller<In, Out, K> {
     /// What its requests may do.
     pub rights: Rights,
     /// What is told of it, once it was served.
-    pub told: Option<Told>,
+    pub told: Option<ServeReport>,
     pub(crate) desk: Option<Desk<Macaroons>>,
 }
 
 /// What is told of a connection that was served.
 #[derive(Drop)]
-pub struct Told {
+pub struct ServeReport {
     /// Why it ended early, if it did.
     pub fault: Option<ServeFault>,
     /// How many requests were admitted.
@@ -104,7 +104,7 @@ impl<In: Source, Out: Sink, K: Outlook> Caller<In, Out, K> {
 }
 
 /// What is told of a connection, and its desk.
-fn told_of(came: Result<Served, (ServeFault, Served)>) -> (Told, Desk<Macaroons>)
+fn told_of(came: Result<Served, (ServeFault, Served)>) -> (ServeReport, Desk<Macaroons>)
     ensures fault { result.0.fault ≡ fault_of came }
     ensures served { served_with result.0 result.1 ≡ served_of came }
 {
@@ -120,7 +120,7 @@ fn told_of(came: Result<Served, (ServeFault, Served)>) -> (Told, Desk<Macaroons>
         desk,
         session,
     } = served;
-    let told = Told {
+    let told = ServeReport {
         fault,
         arrived,
         sent,

@@ -12,11 +12,11 @@ use crate::fault::ServeFault;
 use crate::inbound::Inbound;
 use crate::incoming::{InboundFault, Incoming};
 use crate::outbound::{Outbound, OutboundFault};
-use crate::signals::Signals;
+use crate::signals::HalfSignals;
 use mac_board::Outlook;
 use mac_decide::{Macaroons, Rights};
+use mac_order::{Totals, make_ring, meet};
 use mac_queue::Desk;
-use mac_ring::{Totals, make_ring, meet};
 use mac_wire::{Ending, FrameReader, NoMemory, Session, Sink, Source, Unsent, Version};
 use std::alloc::Global;
 use std::sync::Wait;
@@ -171,7 +171,7 @@ fn run_both<R: Threads + Wait + Sync, In: Source, Out: Sink, K: Outlook>(
         (In.faults source.old) (In.faults source.new) incoming.old.first incoming.old.reader
         incoming.new.reader result.1 inbound.old inbound.new }
 {
-    let signals = Signals::new();
+    let signals = HalfSignals::new();
     join_mut(
         rt,
         &mut || outbound.run(rt, sink, unsent, &signals),

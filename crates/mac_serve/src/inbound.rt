@@ -8,13 +8,11 @@ ghost use Rattle.mac_serve.specs.Room.{payload_size, IsCounted, IsCountedBeside}
 
 use crate::incoming::{InboundFault, Incoming};
 use crate::outstanding::Outstanding;
-use crate::signals::Signals;
+use crate::signals::HalfSignals;
 use mac_board::Outlook;
 use mac_decide::{Job, Macaroons, Rights, Terms, job_of};
-use mac_mail::PutFault;
-use mac_order::Service;
-use mac_queue::Putter;
-use mac_ring::{AdmitFault, Intake};
+use mac_order::{AdmitFault, Intake, Service};
+use mac_queue::{PutFault, Putter};
 use mac_wire::{Arrival, Ending, Source};
 use std::alloc::Global;
 use std::sync::Wait;
@@ -40,7 +38,7 @@ pub struct Inbound {
 }
 
 impl Inbound {
-    ghost use Rattle.mac_ring.specs.Ring.{admitted, IsSameIntake, Knows};
+    ghost use Rattle.mac_order.specs.Ring.{admitted, IsSameIntake, Knows};
     ghost use Rattle.mac_queue.specs.Putting.{with_put};
     ghost use Rattle.mac_serve.specs.Receiving.{CountsRead, IsSameHalf, Receives, ReceivesUnder, TakesUnder, HasRun, Past, GoesOn, Continues, Runs};
     ghost use Rattle.mac_wire.specs.FrameReader.{HasEnded};
@@ -62,7 +60,7 @@ impl Inbound {
     }
 
     /// Admits the job, where the ring and the bytes of the jobs without reply leave room for it.
-    fn try_admit(&mut self, job: Job, signals: &Signals) -> Result<u64, (AdmitFault, Job)>
+    fn try_admit(&mut self, job: Job, signals: &HalfSignals) -> Result<u64, (AdmitFault, Job)>
         ensures ring { IsSameIntake self.old.ring self.new.ring }
         ensures putter { self.new.putter ≡ self.old.putter }
         ensures place { IfOk result (λ place. place ≡ length (admitted self.old.ring)) }
@@ -83,7 +81,12 @@ impl Inbound {
     }
 
     /// Admits the job, once there is room for it.
-    fn admit<R: Wait>(&mut self, rt: &R, job: Job, signals: &Signals) -> Result<u64, InboundFault>
+    fn admit<R: Wait>(
+        &mut self,
+        rt: &R,
+        job: Job,
+        signals: &HalfSignals,
+    ) -> Result<u64, InboundFault>
         ensures ring { IsSameIntake self.old.ring self.new.ring }
         ensures putter { self.new.putter ≡ self.old.putter }
         ensures place { IfOk result (λ place. place ≡ length (admitted self.old.ring)) }
@@ -128,7 +131,7 @@ impl Inbound {
 
     /// Waits until one more job of that length may go into the queue, or until the outbound half
     /// has ended.
-    fn await_turn<R: Wait>(&mut self, rt: &R, length: usize, signals: &Signals)
+    fn await_turn<R: Wait>(&mut self, rt: &R, length: usize, signals: &HalfSignals)
         ensures ring { self.new.ring ≡ self.old.ring }
         ensures putter { self.new.putter ≡ self.old.putter }
     {
@@ -152,7 +155,7 @@ impl Inbound {
         rt: &R,
         place: u64,
         job: Job,
-        signals: &Signals,
+        signals: &HalfSignals,
     ) -> Result<(), InboundFault>
         ensures ring { self.new.ring ≡ self.old.ring }
         ensures put { OnOk result (self.new.putter ≡ with_put self.old.putter (place, job)) }
@@ -186,7 +189,7 @@ impl Inbound {
         alloc: Global,
         arrival: Arrival,
         terms: Terms<'_>,
-        signals: &Signals,
+        signals: &HalfSignals,
     ) -> Result<(), InboundFault>
         ensures { Receives (job_under (lent_terms terms.entry) arrival ∷ []) result self.old
             self.new }
@@ -207,7 +210,7 @@ impl Inbound {
         arrivals: Vec<Arrival>,
         outlook: &mut K,
         rights: &Rights,
-        signals: &Signals,
+        signals: &HalfSignals,
     ) -> Result<(), InboundFault>
         ensures { ReceivesUnder
             (TakesUnder rights.now K.tells (K.known outlook.old) (K.known outlook.new))
@@ -231,7 +234,7 @@ impl Inbound {
     fn read_next<In: Source>(
         source: &mut In,
         incoming: &mut Incoming,
-        signals: &Signals,
+        signals: &HalfSignals,
     ) -> Result<Option<Vec<Arrival>>, InboundFault>
         ensures goes_on { (rights : PlainRights) (tells : Bool) (begun known : Noticed)
             (version : Version) (past : Past) (given : List ℕ) (start now : Inbound)
@@ -260,7 +263,7 @@ impl Inbound {
         first: Vec<Arrival>,
         outlook: &mut K,
         rights: &Rights,
-        signals: &Signals,
+        signals: &HalfSignals,
     ) -> Result<(), InboundFault>
         ensures same { IsSameHalf self.old self.new }
         ensures goes_on { (begun : Noticed) (version : Version) (past : Past) (given : List ℕ)
@@ -296,7 +299,7 @@ impl Inbound {
         incoming: &mut Incoming,
         outlook: &mut K,
         rights: &Rights,
-        signals: &Signals,
+        signals: &HalfSignals,
     ) -> Result<Ending, InboundFault>
         ensures { Runs In.tells
             (TakesUnder rights.now K.tells (K.known outlook.old) (K.known outlook.new))
@@ -327,7 +330,7 @@ impl Inbound {
         incoming: &mut Incoming,
         outlook: &mut K,
         rights: &Rights,
-        signals: &Signals,
+        signals: &HalfSignals,
     ) -> Result<Ending, InboundFault>
         ensures { Runs In.tells
             (TakesUnder rights.now K.tells (K.known outlook.old) (K.known outlook.new))

@@ -11,8 +11,8 @@ ghost use Rattle.mac_serve.specs.Receiving.{Readings, TakesUnder, terms_of, jobs
 ghost use Rattle.mac_serve.specs.Serving.{answers, under_table};
 ghost use Rattle.mac_serve.specs.Joining.{ServingJoins};
 
-use mac_mail::MAIL_MAX;
-use mac_ring::{OPEN_SLIPS_MAX, RING_SLIPS_MAX};
+use mac_order::{OPEN_SLIPS_MAX, RING_SLIPS_MAX};
+use mac_queue::MAIL_MAX;
 
 /// A connection has 128 places without their reply at most, in its ring and open: as many as its
 /// mailbox holds posts, so that no worker waits for room there.

@@ -14,7 +14,7 @@ mod outstanding;
 mod signals;
 mod whole;
 
-pub use caller::{Caller, Told};
+pub use caller::{Caller, ServeReport};
 pub use connection::{Served, serve};
 pub use fault::{ServeFault, WholeFault};
 pub use whole::serve_all;

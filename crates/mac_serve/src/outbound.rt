@@ -2,12 +2,11 @@
 
 ghost use Rattle.std.specs.Prelude.{◌≡◌, ◌<◌, [], Ok};
 
-use crate::signals::Signals;
+use crate::signals::HalfSignals;
 use mac_decide::{Macaroons, laws};
-use mac_mail::{Post, Taker};
-use mac_order::Next;
 use mac_order::laws::equal_jobs_hold_the_same;
-use mac_ring::Outlet;
+use mac_order::{Next, Outlet};
+use mac_queue::{Post, Taker};
 use mac_wire::{GATHERED, Sink, Unsent, Version, append_reply, send_all, whole_frames};
 use std::alloc::Global;
 use std::sync::Wait;
@@ -54,7 +53,7 @@ pub struct Outbound {
 }
 
 impl Outbound {
-    ghost use Rattle.mac_ring.specs.Ring.{received};
+    ghost use Rattle.mac_order.specs.Ring.{received};
     ghost use Rattle.mac_order.specs.Buffer.{fresh_buffer};
     ghost use Rattle.mac_serve.specs.Sending.{Stands, StepsAlone, Releases, Flushes, SendsAll, SendsUnsent, SendsBoth};
 
@@ -217,7 +216,7 @@ impl Outbound {
         &mut self,
         rt: &R,
         sink: &mut W,
-        signals: &Signals,
+        signals: &HalfSignals,
     ) -> Result<(), OutboundFault>
         requires { W.faults sink.old < u64.MAX }
         ensures { SendsAll W.tells (W.written sink.old) (W.written sink.new)
@@ -250,7 +249,7 @@ impl Outbound {
     }
 
     /// Whether answers will come for the slips that are open.
-    fn awaits_answers(&self, signals: &Signals) -> bool {
+    fn awaits_answers(&self, signals: &HalfSignals) -> bool {
         self.ring.open_slips() > 0 && !signals.has_inbound_failed()
     }
 
@@ -278,7 +277,7 @@ impl Outbound {
         rt: &R,
         sink: &mut W,
         unsent: &mut Unsent,
-        signals: &Signals,
+        signals: &HalfSignals,
     ) -> Result<(), OutboundFault>
         ensures { SendsBoth W.tells unsent.old unsent.new (W.written sink.old)
             (W.written sink.new) (W.faults sink.old) (W.faults sink.new) result self.old self.new }
@@ -298,7 +297,7 @@ impl Outbound {
         rt: &R,
         sink: &mut W,
         unsent: &mut Unsent,
-        signals: &Signals,
+        signals: &HalfSignals,
     ) -> Result<(), OutboundFault>
         ensures { SendsBoth W.tells unsent.old unsent.new (W.written sink.old)
             (W.written sink.new) (W.faults sink.old) (W.faults sink.new) result self.old self.new }

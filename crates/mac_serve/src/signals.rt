@@ -1,6 +1,6 @@
 //! What the two halves of a connection tell each other while they run.
 
-use mac_mail::{Bell, Notice};
+use mac_queue::{AnnouncedWait, Bell};
 use std::sync::Wait;
 use std::sync::atomic::{AtomicBool, AtomicU64, Ordering};
 use std::time::Duration;
@@ -13,7 +13,7 @@ const THREAD_TURNS: u32 = 100;
 /// look, to wait and to
 /// stop: no contract speaks of them.
 #[derive(Drop)]
-pub struct Signals {
+pub struct HalfSignals {
     outbound_begun: AtomicU64,
     inbound_ended: AtomicBool,
     inbound_failed: AtomicBool,
@@ -23,10 +23,10 @@ pub struct Signals {
     room: Bell,
 }
 
-impl Signals {
+impl HalfSignals {
     /// Both halves are about to run.
-    pub fn new() -> Signals {
-        Signals {
+    pub fn new() -> HalfSignals {
+        HalfSignals {
             outbound_begun: AtomicU64::new(0),
             inbound_ended: AtomicBool::new(false),
             inbound_failed: AtomicBool::new(false),
@@ -104,18 +104,18 @@ impl Signals {
 
     /// Announces that the inbound half is about to wait until the replies below this place went
     /// out. It looks once more before it sleeps.
-    pub fn announce(&self, wanted: u64) -> Notice {
+    pub fn announce(&self, wanted: u64) -> AnnouncedWait {
         self.wanted.store(wanted, Ordering::SeqCst);
         self.room.announce()
     }
 
     /// Sleeps until there may be room.
-    pub fn sleep(&self, rt: &impl Wait, notice: Notice) {
+    pub fn sleep(&self, rt: &impl Wait, notice: AnnouncedWait) {
         self.room.sleep(rt, notice);
     }
 
     /// Waits no more: there was room.
-    pub fn withdraw(&self, notice: Notice) {
+    pub fn withdraw(&self, notice: AnnouncedWait) {
         self.room.withdraw(notice);
     }
 }

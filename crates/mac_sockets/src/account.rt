@@ -62,7 +62,7 @@ impl SharedBudget {
 
 /// What a loop has of a budget, and what its connections hold of that.
 #[derive(Drop)]
-pub struct Account {
+pub struct BudgetAccount {
     budget: Arc<SharedBudget, Global>,
     taken: u64,
     held: u64,
@@ -74,16 +74,16 @@ pub struct Account {
     wants: u64,
 }
 
-impl Account {
+impl BudgetAccount {
     /// That of a further loop, which is woken so. It has nothing.
     pub fn open<R: Wait>(
         rt: &R,
         budget: &Arc<SharedBudget, Global>,
         waker: Waker,
-    ) -> Result<Account, AllocError> {
+    ) -> Result<BudgetAccount, AllocError> {
         let budget = Arc::try_clone(budget)?;
         budget.add(rt, waker)?;
-        Ok(Account {
+        Ok(BudgetAccount {
             budget,
             taken: 0,
             held: 0,

@@ -11,7 +11,7 @@ use std::os::unix::net::{UnixListener, UnixStream};
 use std::process::Process;
 use std::sync::Wait;
 use std::time::Clock;
-use std::{fs, io, process};
+use std::{fs, io, mem, process};
 
 /// How many bytes stand behind the path while the socket is made: `.new/s` or `.nxt/s`.
 const INSIDE: usize = 6;
@@ -22,6 +22,10 @@ struct Holding {
     made: Made,
     lock: PathLock,
     is_placed: bool,
+    // Whether another socket was in its place at the last look.
+    is_replaced: bool,
+    // Whether the system refused a step of the last look.
+    is_refused: bool,
 }
 
 /// A socket that was made for a path.
@@ -34,6 +38,16 @@ struct Made {
     // Which file the path's lock is, whatever spelling of the path names it.
     lock_file: Option<FileId>,
     socket: FileId,
+}
+
+/// What a look at the paths of a process's sockets came to.
+#[derive(Drop)]
+pub struct PathsLook<'a> {
+    /// The path in whose place there is another socket, if there is one: the main one, where that
+    /// is among them.
+    pub replaced: Option<&'a str>,
+    /// What the system refused, where nothing of that path was refused at the look before.
+    pub refused: Option<PlaceFault>,
 }
 
 /// The paths of the sockets that a process makes.
@@ -84,6 +98,8 @@ impl Holdings {
             made,
             lock,
             is_placed: false,
+            is_replaced: false,
+            is_refused: false,
         };
         match self.held.push(holding) {
             Ok(()) => Ok(listener),
@@ -119,15 +135,26 @@ impl Holdings {
         }
     }
 
-    /// Takes each lock that was given up since. The path in whose place there is another socket, if
-    /// there is one: the main one, where that is among them.
-    pub fn look<R: Files<File = File>>(&mut self, rt: &R, main: &str) -> Option<&str> {
+    /// Takes each lock that was given up since, and looks whether another socket is in a place. What
+    /// is refused is tried again at the next look.
+    pub fn look<R: Files<File = File>>(&mut self, rt: &R, main: &str) -> PathsLook<'_> {
+        let mut refused = None;
         for holding in self.held.iter_mut() {
-            holding.take_lock(rt, self.alloc, self.process);
+            if let Some(fault) = holding.look(rt, self.alloc, self.process) {
+                refused = Some(fault);
+            }
         }
+        PathsLook {
+            replaced: self.replaced(main),
+            refused,
+        }
+    }
+
+    /// The path that was found replaced, if there is one: the main one, where that is among them.
+    fn replaced(&self, main: &str) -> Option<&str> {
         let mut taken = None;
         for holding in &self.held {
-            if holding.is_replaced(rt) {
+            if holding.is_replaced {
                 let path = holding.made.path.as_str();
                 if path == main {
                     return Some(path);
@@ -147,23 +174,62 @@ impl Holding {
         Ok(())
     }
 
-    /// Takes the lock of the path, where only the turn to have it was had, and gives that back.
-    fn take_lock<R: Files<File = File>>(&mut self, rt: &R, alloc: Global, process: Process) {
-        if self.lock.is_own() {
-            return;
+    /// Takes the lock where it was given up, and looks whether another socket is in its place. What
+    /// the system refused, unless it refused something at the look before too.
+    fn look<R: Files<File = File>>(
+        &mut self,
+        rt: &R,
+        alloc: Global,
+        process: Process,
+    ) -> Option<PlaceFault> {
+        let taken = self.take_lock(rt, alloc, process);
+        let found = self.find_replaced(rt);
+        if let Ok(is_replaced) = &found {
+            self.is_replaced = *is_replaced;
         }
-        if let Ok(own) = lock_path(rt, alloc, self.made.path.as_str(), process) {
-            self.lock.give_back(rt);
-            self.lock = PathLock::Own(own);
+        let fault = match (taken, found) {
+            (Err(fault), _) => Some(fault),
+            (Ok(()), Err(fault)) => Some(fault),
+            (Ok(()), Ok(_)) => None,
+        };
+        let was_refused = mem::replace(&mut self.is_refused, fault.is_some());
+        if was_refused { None } else { fault }
+    }
+
+    /// Takes the lock of the path, where only the turn to have it was had, and gives that back. It
+    /// is no fault that another process has the lock.
+    fn take_lock<R: Files<File = File>>(
+        &mut self,
+        rt: &R,
+        alloc: Global,
+        process: Process,
+    ) -> Result<(), PlaceFault> {
+        if self.lock.is_own() {
+            return Ok(());
+        }
+        match lock_path(rt, alloc, self.made.path.as_str(), process) {
+            Ok(own) => {
+                self.lock.give_back(rt);
+                self.lock = PathLock::Own(own);
+                Ok(())
+            }
+            Err(fault) if fault.is_locked() => Ok(()),
+            Err(fault) => Err(fault),
         }
     }
 
     /// Whether another socket is in its place.
-    fn is_replaced<R: Files>(&self, rt: &R) -> bool {
-        self.is_placed
-            && fs::symlink_metadata(rt, self.made.path.as_str()).is_ok_and(|found| {
-                found.file_type().is_socket() && FileId::of(&found) != self.made.socket
-            })
+    fn find_replaced<R: Files>(&self, rt: &R) -> Result<bool, PlaceFault> {
+        if !self.is_placed {
+            return Ok(false);
+        }
+        match fs::symlink_metadata(rt, self.made.path.as_str()) {
+            Ok(found) => {
+                Ok(found.file_type().is_socket() && FileId::of(&found) != self.made.socket)
+            }
+            Err(refused) if refused.kind() == ErrorKind::NotFound => Ok(false),
+            Err(refused) => Err(PlaceFault::from(refused)),
+        }
     }
 }
 

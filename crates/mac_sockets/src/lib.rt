@@ -6,7 +6,7 @@
 //! [`Stream`], over a Unix socket or over TCP, which goes to a thread by that one's [`Inbox`]. That
 //! thread has its [`Connections`] in slots, waits for what a poll tells of them, and takes turns
 //! over those that are ready. The loops have the memory of their connections of one
-//! [`SharedBudget`], by an [`Account`] each. Nothing here knows what is said on a stream.
+//! [`SharedBudget`], by an [`BudgetAccount`] each. Nothing here knows what is said on a stream.
 #![tactic(auto)]
 
 mod account;
@@ -24,7 +24,7 @@ mod place;
 mod stacks;
 mod stream;
 
-pub use account::{Account, SharedBudget};
+pub use account::{BudgetAccount, SharedBudget};
 pub use budget::Budget;
 pub use connections::{Connections, REST_MIN, Readiness, Wakes};
 pub use door::Door;
@@ -32,7 +32,7 @@ pub use doors::Doors;
 pub use entrance::{Accepted, Arrived, Entrance, Shutter};
 pub use fault::WaitFault;
 pub use heavy::{Heavy, Holds, heaviest};
-pub use holding::Holdings;
+pub use holding::{Holdings, PathsLook};
 pub use inbox::Inbox;
 pub use lock::PathClaim;
 pub use place::{PlaceFault, bind_new};

@@ -1,7 +1,7 @@
 //! The system's clock, for who answers requests.
 
 use mac_board::Moments;
-use mac_mail::History;
+use mac_queue::History;
 use std::time::{Clock, SystemTime, UNIX_EPOCH};
 
 /// The system's clock.

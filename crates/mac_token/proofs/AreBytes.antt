@@ -4,8 +4,8 @@ use Rattle.std.specs.Prelude.{codes}
 use Rattle.std.specs.List.{flat_map}
 use Rattle.std.proofs.lemmas.List.Concat.{flat_map-append}
 use Rattle.base64.specs.GeneralPurpose.{IsBytes}
-use Rattle.mac_token.specs.declared.v1.key.Key.{Key}
-use Rattle.mac_token.specs.declared.v1.key.Key.TheVariants.{Location, Identifier, Cid, Vid, Cl, Signature}
+use Rattle.mac_token.specs.declared.v1.key.PacketKey.{PacketKey}
+use Rattle.mac_token.specs.declared.v1.key.PacketKey.TheVariants.{Location, Identifier, Cid, Vid, Cl, Signature}
 use Rattle.mac_token.specs.declared.v2.FieldType.{FieldType}
 use Rattle.mac_token.specs.declared.v2.FieldType.TheVariants as kinds
 use Rattle.mac_token.specs.RawToken.{TokenParts, IsToken}
@@ -37,7 +37,7 @@ tested bytes e = bytes_from_all bytes ((bytes_test bytes).0 e)
 hex_digit_is_byte : (n : ℕ) → hex_digit n < 256
 hex_digit_is_byte n = tested (codes "0123456789abcdef") refl n
 
-key_name_is_bytes : (key : Key) → IsBytes (key_name key)
+key_name_is_bytes : (key : PacketKey) → IsBytes (key_name key)
 key_name_is_bytes Location = tested (codes "location") refl
 key_name_is_bytes Identifier = tested (codes "identifier") refl
 key_name_is_bytes Cid = tested (codes "cid") refl

@@ -1,7 +1,7 @@
 -- Reading caveats one after the other, as a loop does.
 use Rattle.std.proofs.Common.{◌≡◌, ℕ, zero, suc, ◌<◌, List, [], ◌∷◌, ◌++◌, Option, Some, None, true, false, cond, length, refl, ap, ◌∙◌, arith, length-append}
 use Rattle.std.specs.List.{flat_map}
-use Rattle.mac_token.specs.declared.v1.key.Key.TheVariants.{Cid}
+use Rattle.mac_token.specs.declared.v1.key.PacketKey.TheVariants.{Cid}
 use Rattle.mac_token.specs.RawToken.{CaveatParts}
 use Rattle.mac_token.specs.Steps.{◌>>=◌}
 use Rattle.mac_token.specs.V1.{Field, packet, vid_fields}

@@ -13,8 +13,8 @@ use Rattle.mac_token.specs.Steps.{◌>>=◌}
 use Rattle.mac_token.specs.V1.{packet}
 use Rattle.mac_token.specs.V1Reading.{has_key, field_at, section_at, caveat_at}
 use Rattle.mac_token.specs.CaveatsIn.{section_in, end_in, caveats_in, found_caveats, spelled_in, ids_in}
-use Rattle.mac_token.specs.declared.v1.key.Key.{Key}
-use Rattle.mac_token.specs.declared.v1.key.Key.TheVariants.{Cid}
+use Rattle.mac_token.specs.declared.v1.key.PacketKey.{PacketKey}
+use Rattle.mac_token.specs.declared.v1.key.PacketKey.TheVariants.{Cid}
 use Rattle.mac_token.specs.declared.version.Version.{Version}
 use Rattle.mac_token.specs.declared.version.Version.TheVariants.{V1, V2}
 use Rattle.mac_token.proofs.Steps.{went_on}
@@ -73,7 +73,7 @@ caveat_shorter V1 bytes s rest c fits read says =
 caveat_shorter V2 bytes s rest c fits read says = (section_shorter bytes s rest fits read, (section_takes bytes s rest fits read).rest_fits)
 
 -- what stands behind a field of bytes is bytes
-pub field_rest_fits : (key : Key) (bytes value rest : List ℕ) → IsBytes bytes → field_at key bytes ≡ Some (value, rest) → IsBytes rest
+pub field_rest_fits : (key : PacketKey) (bytes value rest : List ℕ) → IsBytes bytes → field_at key bytes ≡ Some (value, rest) → IsBytes rest
 field_rest_fits key bytes value rest fits e = IsBytes-rest (packet (record { key = key; value = value })) bytes rest (field_at_takes key bytes value rest e).parts fits
 
 -- ---- a walk over them

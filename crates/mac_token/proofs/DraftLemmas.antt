@@ -15,7 +15,7 @@ use Rattle.mac_token.specs.declared.fault.TokenFault.{TokenFault}
 use Rattle.mac_token.specs.declared.fault.TokenFault.TheVariants.{Refused, Memory}
 use Rattle.mac_token.specs.declared.fault.TokenRefusal.TheVariants.{Limit}
 use Rattle.mac_token.specs.declared.limits.TheConstants.{CAVEAT_MAX, TOKEN_MAX}
-use Rattle.mac_token.specs.declared.v1.key.Key.TheVariants as key
+use Rattle.mac_token.specs.declared.v1.key.PacketKey.TheVariants as key
 use Rattle.mac_token.specs.declared.v2.FieldType.TheVariants as kind
 use Rattle.mac_token.specs.Answers.{Answers}
 use Rattle.mac_token.specs.Base64Text.{base64_of}

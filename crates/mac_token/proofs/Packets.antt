@@ -6,7 +6,7 @@ use Rattle.std.specs.List.{flat_map}
 use Rattle.std.specs.declared.alloc.Global.{Global}
 use Rattle.std.specs.declared.vec.Vec.{Vec}
 use Rattle.mac_token.specs.declared.limits.TheConstants.{CAVEAT_MAX}
-use Rattle.mac_token.specs.declared.v1.key.Key.TheVariants.{Location, Identifier, Signature}
+use Rattle.mac_token.specs.declared.v1.key.PacketKey.TheVariants.{Location, Identifier, Signature}
 use Rattle.mac_token.specs.RawToken.{TokenParts, byte_lists}
 use Rattle.mac_token.specs.Limits.{AreShort}
 use Rattle.mac_token.specs.V1.{Field, key_name, packet, packet_length, hex_digits, caveat_field, v1_bytes}

@@ -6,8 +6,8 @@ use Rattle.std.proofs.lemmas.List.{append-nil}
 use Rattle.std.proofs.lemmas.List.Concat.{flat_map-append}
 use Rattle.std.proofs.lemmas.Option.{same_Some, some_pair_parts}
 use Rattle.std.proofs.lemmas.Str.{IsUtf8-from_is_utf8, is_utf8-from_IsUtf8}
-use Rattle.mac_token.specs.declared.v1.key.Key.{Key}
-use Rattle.mac_token.specs.declared.v1.key.Key.TheVariants.{Cid, Vid, Cl, Signature}
+use Rattle.mac_token.specs.declared.v1.key.PacketKey.{PacketKey}
+use Rattle.mac_token.specs.declared.v1.key.PacketKey.TheVariants.{Cid, Vid, Cl, Signature}
 use Rattle.mac_token.specs.Steps.{◌>>=◌}
 use Rattle.mac_token.specs.RawToken.{CaveatParts}
 use Rattle.mac_token.specs.V1.{Field, HasLength, packet, vid_fields, AreLocationFields, AreCaveatFields}
@@ -54,7 +54,7 @@ no_cid_at_signature value rest = refl
 
 -- ---- fields
 
-abbrev pub one_field : Key → List ℕ → List Field
+abbrev pub one_field : PacketKey → List ℕ → List Field
 one_field key value = record { key = key; value = value } ∷ []
 
 -- these fields stand at the front
@@ -77,21 +77,21 @@ AreFields-then a b c xs ys p q = record {
   lengths = AllByRecursion-append xs ys p.lengths q.lengths;
 }
 
-pub one_is : (bytes : List ℕ) (key : Key) (value rest : List ℕ) → IsField bytes key value rest → AreFields bytes (one_field key value) rest
+pub one_is : (bytes : List ℕ) (key : PacketKey) (value rest : List ℕ) → IsField bytes key value rest → AreFields bytes (one_field key value) rest
 one_is bytes key value rest f = record {
   parts = f.parts ∙ ap (λ (t : List ℕ). t ++ rest) (sym (append-nil (packet (record { key = key; value = value }))));
   lengths = (f.below, tt);
 }
 
 -- the field, where there is one
-abbrev pub optional_fields : Key → Option (List ℕ) → List Field
+abbrev pub optional_fields : PacketKey → Option (List ℕ) → List Field
 optional_fields key None = []
 optional_fields key (Some value) = one_field key value
 
 abbrev found : List ℕ × List ℕ → Option (Option (List ℕ) × List ℕ)
 found f = Some (Some f.0, f.1)
 
-by_test : (key : Key) (bytes : List ℕ) (value : Option (List ℕ)) (rest : List ℕ) (test : Bool) → cond test (field_at key bytes >>= found) (Some (None, bytes)) ≡ Some (value, rest)
+by_test : (key : PacketKey) (bytes : List ℕ) (value : Option (List ℕ)) (rest : List ℕ) (test : Bool) → cond test (field_at key bytes >>= found) (Some (None, bytes)) ≡ Some (value, rest)
     → AreFields bytes (optional_fields key value) rest
 by_test key bytes value rest true e =
     let f = bind_some (field_at key bytes) found (value, rest) e in
@@ -102,16 +102,16 @@ by_test key bytes value rest false e =
     let same = some_pair_parts None value bytes rest e in
     subst (λ (v : Option (List ℕ)). AreFields bytes (optional_fields key v) rest) same.0 (record { parts = same.1; lengths = tt })
 
-pub optional_at_takes : (key : Key) (bytes : List ℕ) (value : Option (List ℕ)) (rest : List ℕ) → optional_at key bytes ≡ Some (value, rest) → AreFields bytes (optional_fields key value) rest
+pub optional_at_takes : (key : PacketKey) (bytes : List ℕ) (value : Option (List ℕ)) (rest : List ℕ) → optional_at key bytes ≡ Some (value, rest) → AreFields bytes (optional_fields key value) rest
 unfolding optional_at
 optional_at_takes key bytes value rest e = by_test key bytes value rest (has_key key bytes) e
 
-one_again : (key : Key) (has : (value rest : List ℕ) → has_key key (packet (record { key = key; value = value }) ++ rest) ≡ true) (value rest : List ℕ)
+one_again : (key : PacketKey) (has : (value rest : List ℕ) → has_key key (packet (record { key = key; value = value }) ++ rest) ≡ true) (value rest : List ℕ)
     → HasLength (record { key = key; value = value }) → optional_at key (flat_map packet (one_field key value) ++ rest) ≡ Some (Some value, rest)
 unfolding optional_at
 one_again key has value rest below = rw (append-nil (packet (record { key = key; value = value })), has value rest, field_at_again key value rest below) refl
 
-none_again : (key : Key) (bytes : List ℕ) → has_key key bytes ≡ false → optional_at key bytes ≡ Some (None, bytes)
+none_again : (key : PacketKey) (bytes : List ℕ) → has_key key bytes ≡ false → optional_at key bytes ≡ Some (None, bytes)
 unfolding optional_at
 none_again key bytes no_more = rw no_more refl
 

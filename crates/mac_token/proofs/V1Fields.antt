@@ -6,7 +6,7 @@ use Rattle.std.proofs.lemmas.Bool.{ltb-false, le-ltb, eqb-true}
 use Rattle.std.proofs.lemmas.List.{take_at, drop_at, take-append-drop, length-take}
 use Rattle.std.proofs.lemmas.Bool.Decides.{Decides-eqb}
 use Rattle.std.proofs.lemmas.Slice.Eq.{starts_is}
-use Rattle.mac_token.specs.declared.v1.key.Key.{Key}
+use Rattle.mac_token.specs.declared.v1.key.PacketKey.{PacketKey}
 use Rattle.mac_token.specs.V1.{HasLength, key_name, packet, packet_length, hex_digits}
 use Rattle.mac_token.specs.V1Reading.{hex_number, line_end, line_of, line_at, front_of, field_at}
 use Rattle.mac_token.proofs.Steps.{bind_some, kept, passed}
@@ -73,19 +73,19 @@ line_at_again line rest below = rw (hex_number_again (length line + 5) below) (l
 
 -- ---- a line with a key
 
-pub record IsField (bytes : List ℕ) (key : Key) (value rest : List ℕ) : Type 0 where
+pub record IsField (bytes : List ℕ) (key : PacketKey) (value rest : List ℕ) : Type 0 where
   pub parts : bytes ≡ packet (record { key = key; value = value }) ++ rest
   pub below : HasLength (record { key = key; value = value })
 
 -- a packet is the packet of its line
-pub packet_is : (key : Key) (value rest : List ℕ) → packet (record { key = key; value = value }) ++ rest ≡ packet_of_line (front_of key ++ value) rest
+pub packet_is : (key : PacketKey) (value rest : List ℕ) → packet (record { key = key; value = value }) ++ rest ≡ packet_of_line (front_of key ++ value) rest
 unfolding packet
 packet_is key value rest =
     let size : packet_length (record { key = key; value = value }) ≡ length (front_of key ++ value) + 5 =
     omega (arith, length-append (front_of key) value, length-append (key_name key) (32 ∷ [])) in
     rw size (simp append_assoc)
 
-pub field_at_takes : (key : Key) (bytes value rest : List ℕ) → field_at key bytes ≡ Some (value, rest) → IsField bytes key value rest
+pub field_at_takes : (key : PacketKey) (bytes value rest : List ℕ) → field_at key bytes ≡ Some (value, rest) → IsField bytes key value rest
 unfolding field_at
 field_at_takes key bytes value rest e =
     let line = bind_some (line_at bytes) (λ l. cond (starts_with nat_eq l.0 (front_of key)) (Some (drop (length (front_of key)) l.0, l.1)) None) (value, rest) e in
@@ -100,7 +100,7 @@ field_at_takes key bytes value rest e =
       below = omega (arith, is.below, ap length line-is, length-append (front_of key) value, length-append (key_name key) (32 ∷ []));
     }
 
-pub field_at_again : (key : Key) (value rest : List ℕ) → HasLength (record { key = key; value = value }) → field_at key (packet (record { key = key; value = value }) ++ rest) ≡ Some (value, rest)
+pub field_at_again : (key : PacketKey) (value rest : List ℕ) → HasLength (record { key = key; value = value }) → field_at key (packet (record { key = key; value = value }) ++ rest) ≡ Some (value, rest)
 unfolding field_at
 field_at_again key value rest below =
     let small : length (front_of key ++ value) + 5 < 2 ^ 16 = omega (arith, below, length-append (front_of key) value, length-append (key_name key) (32 ∷ [])) in

@@ -1,7 +1,7 @@
 -- The packets that are written for a token spell it.
 use Rattle.std.proofs.Common.{◌≡◌, ℕ, suc, List, [], ◌∷◌, ◌++◌, length, map, refl, inl, arith}
 use Rattle.std.specs.List.{AllByRecursion}
-use Rattle.mac_token.specs.declared.v1.key.Key.TheVariants.{Signature}
+use Rattle.mac_token.specs.declared.v1.key.PacketKey.TheVariants.{Signature}
 use Rattle.mac_token.specs.RawToken.{TokenParts, IsToken, raw_of, first_party}
 use Rattle.mac_token.specs.Limits.{IsWithinLimits, AreShort}
 use Rattle.mac_token.specs.V1.{HasLength, AreCaveatsFields, caveat_field, v1_bytes, V1}

@@ -5,7 +5,7 @@ use Rattle.base64.specs.GeneralPurpose.{IsBytes}
 use Rattle.mac_token.specs.declared.form.Form.{Form}
 use Rattle.mac_token.specs.declared.form.Form.TheVariants.{V1Text, V2Binary, V2Json, V2Text}
 use Rattle.mac_token.specs.declared.limits.TheConstants.{TOKEN_MAX}
-use Rattle.mac_token.specs.declared.v1.key.Key.TheVariants.{Location}
+use Rattle.mac_token.specs.declared.v1.key.PacketKey.TheVariants.{Location}
 use Rattle.mac_token.specs.Limits.{IsWithinLimits}
 use Rattle.mac_token.specs.RawToken.{TokenParts, IsToken, raw_of}
 use Rattle.mac_token.specs.Base64Text.{base64_of}

@@ -8,7 +8,7 @@ use Rattle.mac_token.specs.V2Reading as v2
 use Rattle.mac_token.specs.V2Whole as v2_whole
 use Rattle.mac_token.specs.declared.limits.TheConstants.{CAVEAT_MAX}
 use Rattle.mac_token.specs.declared.tally.Tally.{Tally}
-use Rattle.mac_token.specs.declared.v1.key.Key.TheVariants.{Cid}
+use Rattle.mac_token.specs.declared.v1.key.PacketKey.TheVariants.{Cid}
 use Rattle.mac_token.specs.declared.version.Version.{Version}
 use Rattle.mac_token.specs.declared.version.Version.TheVariants.{V1, V2}
 

@@ -8,7 +8,7 @@ use Rattle.mac_token.specs.declared.fault.TokenRefusal.TheVariants.{Limit}
 use Rattle.mac_token.specs.declared.form.Form.{Form}
 use Rattle.mac_token.specs.declared.form.Form.TheVariants.{V1Text, V2Binary, V2Json, V2Text}
 use Rattle.mac_token.specs.declared.limits.TheConstants.{TOKEN_MAX}
-use Rattle.mac_token.specs.declared.v1.key.Key.TheVariants as key
+use Rattle.mac_token.specs.declared.v1.key.PacketKey.TheVariants as key
 use Rattle.mac_token.specs.declared.v2.FieldType.TheVariants as kind
 use Rattle.mac_token.specs.Base64Text.{base64_of}
 use Rattle.mac_token.specs.Json.{json_bytes}

@@ -2,12 +2,12 @@
 use Rattle.std.specs.Prelude.{◌≡◌, ◌≢◌, ◌⊎◌, ℕ, ◌+◌, ◌/◌, ◌%◌, ◌<◌, ◌^◌, List, [], ◌∷◌, ◌++◌, length, map, codes, slice_index, Option, Some, None}
 use Rattle.std.specs.List.{flat_map, AllByRecursion}
 use Rattle.std.specs.Str.{IsUtf8}
-use Rattle.mac_token.specs.declared.v1.key.Key.{Key}
-use Rattle.mac_token.specs.declared.v1.key.Key.TheVariants.{Location, Identifier, Cid, Vid, Cl, Signature}
+use Rattle.mac_token.specs.declared.v1.key.PacketKey.{PacketKey}
+use Rattle.mac_token.specs.declared.v1.key.PacketKey.TheVariants.{Location, Identifier, Cid, Vid, Cl, Signature}
 use Rattle.mac_token.specs.RawToken.{CaveatParts, RawParts, TokenParts, raw_of}
 
 -- the name of a packet's key
-abbrev pub key_name : Key → List ℕ
+abbrev pub key_name : PacketKey → List ℕ
 key_name Location = codes "location"
 key_name Identifier = codes "identifier"
 key_name Cid = codes "cid"
@@ -26,7 +26,7 @@ hex_digits n = hex_digit (n / 4096 % 16) ∷ hex_digit (n / 256 % 16) ∷ hex_di
 
 -- a key and its value
 pub record Field : Type 0 where
-  pub key : Key
+  pub key : PacketKey
   pub value : List ℕ
 
 -- how many bytes a packet has: its four digits, the key's name, a space, the value, a line feed

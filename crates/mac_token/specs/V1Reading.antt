@@ -1,8 +1,8 @@
 -- For proofs: what is read from V1 packets, as a function; law `v1_is_meant` ties it to `V1`.
 use Rattle.std.specs.Prelude.{ℕ, zero, suc, ◌+◌, ◌*◌, ◌-◌, ◌==◌, ◌&&◌, nat_lt, nat_le, nat_eq, Bool, false, if◌then◌else◌, List, [], ◌∷◌, ◌++◌, length, take, drop, Option, Some, None}
 use Rattle.std.specs.List.{starts_with}
-use Rattle.mac_token.specs.declared.v1.key.Key.{Key}
-use Rattle.mac_token.specs.declared.v1.key.Key.TheVariants.{Location, Identifier, Cid, Vid, Cl, Signature}
+use Rattle.mac_token.specs.declared.v1.key.PacketKey.{PacketKey}
+use Rattle.mac_token.specs.declared.v1.key.PacketKey.TheVariants.{Location, Identifier, Cid, Vid, Cl, Signature}
 use Rattle.mac_token.specs.RawToken.{CaveatParts, RawParts}
 use Rattle.mac_token.specs.Location.{text_at}
 use Rattle.mac_token.specs.Section.{SectionParts, caveat_said}
@@ -40,11 +40,11 @@ line_at (a ∷ b ∷ c ∷ d ∷ after) = do
 line_at _ = None
 
 -- a key's name and the space behind it
-abbrev pub front_of : Key → List ℕ
+abbrev pub front_of : PacketKey → List ℕ
 front_of key = key_name key ++ 32 ∷ []
 
 -- the value of a packet with this key, and what follows it
-unfoldable pub field_at : Key → List ℕ → Option (List ℕ × List ℕ)
+unfoldable pub field_at : PacketKey → List ℕ → Option (List ℕ × List ℕ)
 field_at key bytes = do
   line ← line_at bytes
   if starts_with nat_eq line.0 (front_of key)
@@ -52,12 +52,12 @@ field_at key bytes = do
       else None
 
 -- the next packet has this key
-unfoldable pub has_key : Key → List ℕ → Bool
+unfoldable pub has_key : PacketKey → List ℕ → Bool
 has_key key (_ ∷ _ ∷ _ ∷ _ ∷ after) = starts_with nat_eq after (front_of key)
 has_key key _ = false
 
 -- the same where there is such a packet
-unfoldable pub optional_at : Key → List ℕ → Option (Option (List ℕ) × List ℕ)
+unfoldable pub optional_at : PacketKey → List ℕ → Option (Option (List ℕ) × List ℕ)
 optional_at key bytes = if has_key key bytes
     then (field_at key bytes >>= λ f. Some (Some f.0, f.1))
     else Some (None, bytes)

@@ -2,7 +2,6 @@
 pub mod Frame
 pub mod Stream
 pub mod FrameReader
-pub mod FeedFault
 pub mod Request
 pub mod KeyName
 pub mod Reply

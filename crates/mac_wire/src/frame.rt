@@ -1,7 +1,6 @@
 //! The frames of a stream that comes in pieces.
 
 ghost use Rattle.std.specs.Prelude.{◌≡◌, ◌↔◌, ◌⊎◌, ◌<◌, ℕ, List, [], ◌++◌, length, IsTrue, IfOk, OnErr, IsErrOf};
-ghost use Rattle.mac_wire.specs.FeedFault.{feed_fault_code};
 ghost use Rattle.mac_wire.specs.Steps.{Cuts, frames_after, told_after};
 ghost use Rattle.mac_wire.specs.declared.arrival.Arrival.{Arrival};
 ghost use Rattle.mac_wire.specs.declared.frame.FeedFault.TheVariants.{NoMemory};
@@ -24,18 +23,6 @@ pub enum FeedFault {
     /// The stream ended at an Oversize, or an earlier feed failed.
     #[error("the stream has ended")]
     Ended,
-}
-
-impl FeedFault {
-    /// The fault's number.
-    pub fn code(self) -> u8
-        ensures { result ≡ feed_fault_code self }
-    {
-        match self {
-            FeedFault::NoMemory => 1,
-            FeedFault::Ended => 2,
-        }
-    }
 }
 
 impl From<AllocError> for FeedFault {

@@ -37,7 +37,9 @@ pub use payload::{
 pub use refusal::reason;
 pub use reply_text::{append_refusal, append_reply_text};
 pub use revoked::{put_behind, revoked_line, told_lines, without_revoked};
-pub use saying::{Said, say_attenuate, say_inspect, say_inspect_under, say_mint, say_verify};
+pub use saying::{
+    Minting, Said, say_attenuate, say_inspect, say_inspect_under, say_mint, say_verify,
+};
 pub use spelled::{Spelling, form_named};
 pub use token_text::{append_token_text, token_bytes};
 pub use warned::warnings;

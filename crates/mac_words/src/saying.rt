@@ -31,19 +31,31 @@ pub struct Said {
     pub is_refusal: bool,
 }
 
+/// What a token is minted of: the name of its key, and what it says.
+#[derive(Clone, Copy)]
+pub struct Minting<'a> {
+    pub key: &'a str,
+    pub location: &'a str,
+    pub identifier: &'a str,
+    pub caveats: &'a [String],
+}
+
 /// What is said of the words of a mint; the form that is left out is the text of version 2.
 pub fn say_mint(
     alloc: Global,
     table: &KeyTable,
     form: Option<TokenForm>,
-    key: &str,
-    location: &str,
-    identifier: &str,
-    caveats: &[String],
+    words: &Minting<'_>,
 ) -> Result<Said, FieldFault>
-    ensures { Says table.now [] (mint (mint_form form) key.now location.now identifier.now
-        (texts_of caveats.now)) result }
+    ensures { Says table.now [] (mint (mint_form form) words.now.key.now words.now.location.now
+        words.now.identifier.now (texts_of words.now.caveats.now)) result }
 {
+    let Minting {
+        key,
+        location,
+        identifier,
+        caveats,
+    } = *words;
     let form = mint_form(form);
     let payload = mint_payload(alloc, form, key, location, identifier, caveats)?;
     Ok(said_of(alloc, table, b"", payload)?)

@@ -18,8 +18,8 @@ use mac_daemon::{
 };
 use mac_decide::Rights;
 use mac_gate::{Address, DoorFault, ServerFault};
-use mac_host::{Call, Host};
-use mac_sockets::{Door, Doors, Holdings, PathClaim, PlaceFault};
+use mac_host::{Host, Instruction};
+use mac_sockets::{Door, Doors, Holdings, PathClaim, PathsLook, PlaceFault};
 use mac_system::handed_listener;
 use std::alloc::{Alloc, AllocError, Global};
 use std::env::Env;
@@ -281,11 +281,16 @@ where
     let mut editor = editor;
     for _ in rt.forever() {
         match host.ending().await_call(rt, pause) {
-            Call::End => return editor,
-            Call::Look => editor = look_once(rt, followed, editor, host),
-            Call::Nothing => {}
+            Instruction::End => return editor,
+            Instruction::Look => editor = look_once(rt, followed, editor, host),
+            Instruction::Nothing => {}
         }
-        if let Some(path) = holdings.look(rt, socket) {
+        let PathsLook { replaced, refused } = holdings.look(rt, socket);
+        if let Some(fault) = refused {
+            host.notices()
+                .tell_system(rt, "a socket's path can't be watched", &fault);
+        }
+        if let Some(path) = replaced {
             daemon.end_replaced(rt, path);
         }
         editor = look_once(rt, followed, editor, host);

@@ -226,10 +226,10 @@ fn whole(case: &mut Case<'_>) {
     case.say_number(whole_frames(&bytes) as u64);
 }
 
-/// The number of each fault, where it has one, and its text.
+/// The text of each fault.
 fn fault_texts(case: &mut Case<'_>) {
     for fault in [FeedFault::NoMemory, FeedFault::Ended] {
-        case.tell(format!(in case.alloc; "{} {fault}; ", fault.code()));
+        case.tell(format!(in case.alloc; "{fault}; "));
     }
     case.tell(format!(in case.alloc; "{DeviceFault}"));
 }

@@ -4,7 +4,7 @@ use http_server::Log;
 use mac_board::Moments;
 use mac_calls::Draws;
 use mac_decide::SeenTokens;
-use mac_http::{Monitor, Noted, Page, Told};
+use mac_http::{Monitor, Noted, Page, PageTold};
 use mac_keys::KeyTable;
 use std::alloc::AllocError;
 
@@ -80,19 +80,19 @@ impl Monitor for FixedMonitor {
         page: Page,
         _keys: Option<&KeyTable>,
         text: &mut Vec<u8>,
-    ) -> Result<Told, AllocError> {
+    ) -> Result<PageTold, AllocError> {
         match page {
             Page::Numbers | Page::Status | Page::Connections | Page::Uses => {
                 text.extend_from_slice(b"told\n")?;
-                Ok(Told::Well)
+                Ok(PageTold::Well)
             }
             Page::Health if self.is_well => {
                 text.extend_from_slice(b"ok\n")?;
-                Ok(Told::Well)
+                Ok(PageTold::Well)
             }
             Page::Health => {
                 text.extend_from_slice(b"why\n")?;
-                Ok(Told::Unwell)
+                Ok(PageTold::Unwell)
             }
         }
     }

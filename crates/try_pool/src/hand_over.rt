@@ -1,12 +1,11 @@
 //! Slips that go through a ring, both ends in one thread.
 
-ghost use Rattle.mac_ring.specs.Ring.{IsSameIntake, IsSameOutlet};
+ghost use Rattle.mac_order.specs.Ring.{IsSameIntake, IsSameOutlet};
 
 use crate::digits::Digits;
 use crate::fault::RunFault;
 use crate::runs::Outcome;
-use mac_order::{Answer, Next};
-use mac_ring::{Intake, Outlet, make_ring, meet};
+use mac_order::{Answer, Intake, Next, Outlet, make_ring, meet};
 use std::alloc::Global;
 
 /// What a ring has done once so many slips went through it, one at a time.

@@ -1,14 +1,13 @@
 //! Calls of a ring's two ends, and whether they answer as they are to.
 
-ghost use Rattle.mac_ring.specs.Ring.{IsSameIntake, IsSameOutlet};
+ghost use Rattle.mac_order.specs.Ring.{IsSameIntake, IsSameOutlet};
 
 use crate::digits::Digits;
 use crate::fault::RunFault;
 use crate::hand_over::{hand_over, releases};
 use crate::rows::right_if;
 use crate::runs::Outcome;
-use mac_order::{Answer, Next, SettleFault};
-use mac_ring::{AdmitFault, Intake, Outlet, Totals, make_ring, meet};
+use mac_order::{AdmitFault, Answer, Intake, Next, Outlet, SettleFault, Totals, make_ring, meet};
 use std::alloc::Global;
 use std::thread;
 use std::thread::Threads;

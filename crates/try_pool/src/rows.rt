@@ -8,10 +8,10 @@ use crate::digits::{Digits, REFUSED};
 use crate::drive::{all_home, answered, books_if, desk_of, desks_of, pool_of, put_run};
 use crate::fault::RunFault;
 use crate::runs::Outcome;
-use mac_mail::Delivery;
 use mac_pool::{
     Claim, Desk, DeskFault, Mailbox, PoolFault, Post, PutFault, Queue, QueuePass, Taker,
 };
+use mac_queue::Delivery;
 use std::alloc::Global;
 use std::sync::atomic::AtomicBool;
 use std::sync::atomic::Ordering::SeqCst;

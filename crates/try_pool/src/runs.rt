@@ -2,8 +2,8 @@
 
 use crate::fault::RunFault;
 use crate::{hammer, hand_over, rings, rows, tickets};
+use mac_order::Totals;
 use mac_pool::Tally;
-use mac_ring::Totals;
 use std::alloc::{AllocError, Global};
 use std::rt::Clock;
 use std::sync::Wait;

@@ -1,9 +1,8 @@
-//! Calls of `mac_order` on the buffer, and of `mac_ring`.
+//! Calls of `mac_order` on the buffer and the ring.
 
 use crate::outcome::{Outcome, once_more};
 use mac_decide::Macaroons;
-use mac_order::Reorder;
-use mac_ring::make_ring;
+use mac_order::{Reorder, make_ring};
 use std::alloc::Global;
 
 pub(crate) fn makes_buffers(alloc: Global) -> Outcome {

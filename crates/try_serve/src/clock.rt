@@ -1,7 +1,7 @@
 //! A clock that stands still.
 
 use mac_board::Moments;
-use mac_mail::History;
+use mac_queue::History;
 
 /// The moment of every request that names none: 2023-11-14T22:13:20Z.
 pub(crate) const MOMENT: u64 = 1_700_000_000;

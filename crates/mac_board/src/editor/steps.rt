@@ -12,7 +12,7 @@ use crate::follower::Followers;
 use crate::listing::{ListFinding, ListUp};
 use crate::publisher::{PublishFault, Publisher};
 use crate::sight::{FileState, Sight};
-use crate::watcher::{Finding, Watcher};
+use crate::watcher::{KeyFileFinding, Watcher};
 use mac_keys::{KeyMap, KeyTable, RevokedList};
 use std::alloc::{AllocError, Global};
 use std::sync::Wait;
@@ -104,7 +104,7 @@ impl<R: Wait + Drop> Editor<R> {
         } = self;
         let mut watchers = was;
         let told = match watchers.keys.look(alloc, keys.len(), sight) {
-            Ok(Finding::Table(table)) => {
+            Ok(KeyFileFinding::Table(table)) => {
                 let before = Editor {
                     publisher,
                     watchers: was,
@@ -113,8 +113,8 @@ impl<R: Wait + Drop> Editor<R> {
                 };
                 return before.take_keys(alloc, watchers, table.keys);
             }
-            Ok(Finding::Nothing) => Ok(News::Nothing),
-            Ok(Finding::Refused(why)) => Ok(News::Refused(why)),
+            Ok(KeyFileFinding::Nothing) => Ok(News::Nothing),
+            Ok(KeyFileFinding::Refused(why)) => Ok(News::Refused(why)),
             Err(AllocError) => Err(PublishFault::NoMemory),
         };
         let editor = Editor {

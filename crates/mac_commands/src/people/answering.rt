@@ -19,7 +19,8 @@ use crate::status::Status;
 use mac_keys::KeyTable;
 use mac_wire::{TokenForm, WriterSink, send_all};
 use mac_words::{
-    Said, explain, say_attenuate, say_inspect, say_inspect_under, say_mint, say_verify, warnings,
+    Minting, Said, explain, say_attenuate, say_inspect, say_inspect_under, say_mint, say_verify,
+    warnings,
 };
 use std::alloc::{Alloc, Global};
 use std::fs::{File, Files};
@@ -171,15 +172,13 @@ fn say_mint_under<'a>(
 ) -> Result<Said, PersonFault<'a>>
     ensures { SaysWords table.now [] (mint_asked form identifier.now words.now) result }
 {
-    Ok(say_mint(
-        alloc,
-        table,
-        form,
-        words.key.as_str(),
-        words.location.as_str(),
+    let words = Minting {
+        key: words.key.as_str(),
+        location: words.location.as_str(),
         identifier,
-        words.caveats.as_slice(),
-    )?)
+        caveats: words.caveats.as_slice(),
+    };
+    Ok(say_mint(alloc, table, form, &words)?)
 }
 
 /// What is said of the words of an attenuate about these bytes of a token.

@@ -11,6 +11,7 @@ use mac_board::{ListRefusal, ReadFault};
 use mac_keys::{KeyTable, RevokedFault, RevokedList};
 use std::alloc::{Alloc, AllocError, Global};
 use std::fs::{self, File, Files};
+use std::io::ErrorKind;
 
 /// The keys of a file, beside the list of another one where one is named.
 pub(super) fn load_table<'a, R>(
@@ -66,10 +67,18 @@ pub(super) fn fault_of_list<'a, R: Files>(
     let why = match why {
         ReadFault::TooLong => ListRefusal::TooLong,
         ReadFault::Exposed(exposure) => ListRefusal::Exposed(exposure),
-        ReadFault::Unreadable if fs::metadata(rt, path).is_err() => ListRefusal::Missing,
+        ReadFault::Unreadable if is_missing(rt, path) => ListRefusal::Missing,
         ReadFault::Unreadable => ListRefusal::Unreadable,
     };
     PersonFault::List { path, why }
+}
+
+/// Whether nothing is at a path.
+fn is_missing<R: Files>(rt: &R, path: &str) -> bool {
+    match fs::metadata(rt, path) {
+        Ok(_) => false,
+        Err(refused) => refused.kind() == ErrorKind::NotFound,
+    }
 }
 
 /// What the text of a list takes back.

@@ -2,6 +2,7 @@
 //! its proof costs.
 
 ghost use Rattle.std.specs.Prelude.{◌≡◌, ◌<◌, IfOk, OnOk, length};
+ghost use Rattle.mac_loop.specs.Made.{AreInOrder, count_sides};
 ghost use Rattle.mac_loop.specs.Register.{IsBegun, StandsForMore, parts as parts_of};
 
 use crate::backlog::Backlog;
@@ -12,7 +13,7 @@ use crate::meter::Shares;
 use crate::register::{Origin, Register};
 use crate::roll::{Roll, Wakers};
 use mac_plain::Round;
-use mac_sockets::{Account, Inbox, SharedBudget, WaitFault};
+use mac_sockets::{BudgetAccount, Inbox, SharedBudget, WaitFault};
 use mio::Waker;
 use std::alloc::{AllocError, Global};
 use std::net::Net;
@@ -27,6 +28,8 @@ pub fn make_loops<O: Origin, R: Net + Wait>(
 ) -> Result<(Arc<Loops<O>, Global>, Vec<Box<Loop<O>>>), WaitFault>
     requires { parts.now.terms.count < parts_of register.old }
     ensures count { IfOk result (λ made. length made.1.items ≡ parts.now.terms.count) }
+    ensures sides { IfOk result (λ made. count_sides made.0.value ≡ parts.now.terms.count) }
+    ensures numbers { IfOk result (λ made. AreInOrder 0 made.1.items) }
     ensures left { OnOk result (StandsForMore register.new parts.now.terms.count register.old) }
 {
     let terms = parts.terms;
@@ -50,6 +53,7 @@ fn make_loop<O: Origin, R: Net + Wait>(
     register: Register<O>,
 ) -> Result<(Box<Loop<O>>, Inbox<Handover<O>>), WaitFault>
     requires { IsBegun register }
+    ensures { IfOk result (λ made. made.0.value.number ≡ number) }
 {
     let LoopParts {
         terms,
@@ -92,7 +96,7 @@ fn make_loop<O: Origin, R: Net + Wait>(
 /// answer, and by who hands it a client.
 #[derive(Drop)]
 struct Ends<O: Origin> {
-    account: Account,
+    account: BudgetAccount,
     asks: Waker,
     inbox: Inbox<Handover<O>>,
 }
@@ -109,7 +113,7 @@ fn open_ends<O: Origin, R: Wait>(
         asks,
         budget: waker,
     } = wakers;
-    let account = Account::open(rt, budget, waker)?;
+    let account = BudgetAccount::open(rt, budget, waker)?;
     let inbox = Inbox::new(alloc, inbox)?;
     Ok(Ends {
         account,

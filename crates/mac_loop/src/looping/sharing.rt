@@ -22,6 +22,13 @@ const LOOKS: u8 = 4;
 /// Two loops that together worked no more become one.
 const SHARE_ONE: u64 = 600;
 
+/// Which loop takes active clients, and one in how many of them.
+#[derive(Clone, Copy)]
+struct Gift {
+    to: usize,
+    one_in: usize,
+}
+
 impl<O: Origin> Loop<O> {
     /// Gives clients to another loop: half of those that are active where this one can't keep up,
     /// all of them where one before it has time for them.
@@ -37,11 +44,19 @@ impl<O: Origin> Loop<O> {
         self.note_share(own);
         if self.is_late() && self.shares.of(least) <= SHARE_LOW {
             self.late = 0;
-            self.give(rt, loops, outlook, watch, least, 2);
+            let half = Gift {
+                to: least,
+                one_in: 2,
+            };
+            self.give(rt, loops, outlook, watch, half);
         } else if own <= SHARE_ONE {
             if let Some(before) = self.shares.first_below(SHARE_ONE - own) {
                 if before < self.number {
-                    self.give(rt, loops, outlook, watch, before, 1);
+                    let all = Gift {
+                        to: before,
+                        one_in: 1,
+                    };
+                    self.give(rt, loops, outlook, watch, all);
                 }
             }
         }
@@ -63,23 +78,23 @@ impl<O: Origin> Loop<O> {
         self.late >= LOOKS || (self.late > 0 && self.roll.slots().has_ready())
     }
 
-    /// Gives one of so many active clients to another loop.
+    /// Gives active clients to another loop.
     fn give<R: Wait + Clock, K: Outlook, W: Watch>(
         &mut self,
         rt: &R,
         loops: &Loops<O>,
         outlook: &mut K,
         watch: &W,
-        number: usize,
-        of: usize,
+        gift: Gift,
     ) {
         let mut seen = 0usize;
         for slot in 0..self.roll.slots().bound() {
             let member = self.roll.slots().get(slot);
             if member.is_some_and(|member| member.is_active(self.looks)) {
                 seen = seen.saturating_add(1);
-                if seen % of.max(1) == 0 {
-                    self.move_to(rt, loops, outlook, watch, number, slot);
+                if seen % gift.one_in.max(1) == 0 {
+                    self.move_to(rt, loops, outlook, gift.to, slot);
+                    self.take_back(rt, loops, outlook, watch);
                 }
             }
         }
@@ -87,12 +102,11 @@ impl<O: Origin> Loop<O> {
 
     /// Moves the client of a slot to another loop. Where there is no memory for that it stays, and
     /// so does one that goes on to its end: whoever took it would read it again.
-    fn move_to<R: Wait + Clock, K: Outlook, W: Watch>(
+    fn move_to<R: Wait + Clock, K: Outlook>(
         &mut self,
         rt: &R,
         loops: &Loops<O>,
         outlook: &mut K,
-        watch: &W,
         number: usize,
         slot: usize,
     ) {
@@ -103,6 +117,16 @@ impl<O: Origin> Loop<O> {
         let _ = self.roll.note_rest(slot, self.now);
         self.count_out(slot);
         self.roll.hand_on(rt, loops, number, slot, outlook);
+    }
+
+    /// Takes in anew a client that the other loop had no place for.
+    fn take_back<R: Wait + Clock, K: Outlook, W: Watch>(
+        &mut self,
+        rt: &R,
+        loops: &Loops<O>,
+        outlook: &mut K,
+        watch: &W,
+    ) {
         if self.roll.newcomer().is_some() {
             self.receive(rt, loops, outlook, watch);
         }

@@ -4,9 +4,9 @@
 ghost use Rattle.std.specs.Prelude.{◌≡◌, ◌+◌, ◌-◌, ◌<◌, ◌^◌, [], ◌∷◌, ◌++◌, length};
 ghost use Rattle.mac_queue.specs.Balance.{account, entry_of};
 
+use crate::mailbox::Mailbox;
 use crate::ticket::Ticket;
 use crossbeam_queue::protocol::{Join, Lesson, Outcome, Protocol, Split};
-use mac_mail::Mailbox;
 use mac_order::Service;
 use std::collections::LinkedList;
 
@@ -34,9 +34,9 @@ impl<S: Service> Protocol<Ticket<S>, Books<S>> for Balance {
 }
 
 /// A fresh pass is cut off.
-pub struct Cut;
+pub struct CutOff;
 
-impl<J, M> Split<Account<J, M>> for Cut {
+impl<J, M> Split<Account<J, M>> for CutOff {
     ghost left = { λ a. account (a.parts - 1) [] [] };
 
     ghost right = { λ a. account 1 [] [] };

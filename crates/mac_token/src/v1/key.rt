@@ -5,7 +5,7 @@ ghost use Rattle.mac_token.specs.V1.{key_name};
 
 /// What a packet holds.
 #[derive(Clone, Copy)]
-pub enum Key {
+pub enum PacketKey {
     /// The token's location.
     Location,
     /// The token's identifier.
@@ -20,18 +20,18 @@ pub enum Key {
     Signature,
 }
 
-impl Key {
+impl PacketKey {
     /// The key's name with the space behind it.
     pub(crate) fn name_and_space(self) -> &'static [u8]
         ensures { result.now ≡ key_name self ++ 32 ∷ [] }
     {
         match self {
-            Key::Location => b"location ",
-            Key::Identifier => b"identifier ",
-            Key::Cid => b"cid ",
-            Key::Vid => b"vid ",
-            Key::Cl => b"cl ",
-            Key::Signature => b"signature ",
+            PacketKey::Location => b"location ",
+            PacketKey::Identifier => b"identifier ",
+            PacketKey::Cid => b"cid ",
+            PacketKey::Vid => b"vid ",
+            PacketKey::Cl => b"cl ",
+            PacketKey::Signature => b"signature ",
         }
     }
 }

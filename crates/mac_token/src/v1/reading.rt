@@ -6,7 +6,7 @@ ghost use Rattle.mac_token.specs.V1Reading.{hex_value, hex_number, line_at, fiel
 ghost use Rattle.mac_token.specs.CaveatsIn.{section_in, end_in};
 ghost use Rattle.mac_token.specs.declared.version.Version.TheVariants as Version;
 
-use super::key::Key;
+use super::key::PacketKey;
 use crate::location::text;
 use crate::raw_view::RawView;
 use crate::section::Section;
@@ -57,7 +57,7 @@ fn line(bytes: &[u8]) -> Option<(&[u8], &[u8])>
 
 /// The value of the packet at the front, which has this key, and what follows it.
 #[tactic(auto, unfolding(crate::specs::V1Reading::field_at))]
-fn field(key: Key, bytes: &[u8]) -> Option<(&[u8], &[u8])>
+fn field(key: PacketKey, bytes: &[u8]) -> Option<(&[u8], &[u8])>
     ensures { option_map (λ x. (x.0.now, x.1.now)) result ≡ field_at key bytes.now }
 {
     let (line, rest) = line(bytes)?;
@@ -69,7 +69,7 @@ fn field(key: Key, bytes: &[u8]) -> Option<(&[u8], &[u8])>
 }
 
 #[tactic(auto, unfolding(crate::specs::V1Reading::has_key))]
-fn has_key(key: Key, bytes: &[u8]) -> bool
+fn has_key(key: PacketKey, bytes: &[u8]) -> bool
     ensures { result ≡ has_key key bytes.now }
 {
     match bytes {
@@ -80,7 +80,7 @@ fn has_key(key: Key, bytes: &[u8]) -> bool
 
 /// The value of the packet at the front, if it has this key, and what follows it.
 #[tactic(auto, unfolding(crate::specs::V1Reading::optional_at))]
-fn optional(key: Key, bytes: &[u8]) -> Option<(Option<&[u8]>, &[u8])>
+fn optional(key: PacketKey, bytes: &[u8]) -> Option<(Option<&[u8]>, &[u8])>
     ensures { option_map (λ x. (option_copied x.0, x.1.now)) result ≡ optional_at key bytes.now }
 {
     if !has_key(key, bytes) {
@@ -95,12 +95,12 @@ fn optional(key: Key, bytes: &[u8]) -> Option<(Option<&[u8]>, &[u8])>
 pub(crate) fn next_section(bytes: &[u8]) -> Option<(Section<'_>, &[u8])>
     ensures { option_map (λ x. (x.0, x.1.now)) result ≡ section_in Version.V1 bytes.now }
 {
-    if !has_key(Key::Cid, bytes) {
+    if !has_key(PacketKey::Cid, bytes) {
         return None;
     }
-    let (identifier, rest) = field(Key::Cid, bytes)?;
-    let (vid, rest) = optional(Key::Vid, rest)?;
-    let (location, rest) = optional(Key::Cl, rest)?;
+    let (identifier, rest) = field(PacketKey::Cid, bytes)?;
+    let (vid, rest) = optional(PacketKey::Vid, rest)?;
+    let (location, rest) = optional(PacketKey::Cl, rest)?;
     Some((
         Section {
             location,
@@ -115,7 +115,7 @@ pub(crate) fn next_section(bytes: &[u8]) -> Option<(Section<'_>, &[u8])>
 pub(crate) fn after_caveats(bytes: &[u8]) -> Option<&[u8]>
     ensures { option_map (λ rest. rest.now) result ≡ end_in Version.V1 bytes.now }
 {
-    if has_key(Key::Cid, bytes) {
+    if has_key(PacketKey::Cid, bytes) {
         return None;
     }
     Some(bytes)
@@ -126,7 +126,7 @@ pub(crate) fn after_caveats(bytes: &[u8]) -> Option<&[u8]>
 fn signature(bytes: &[u8]) -> Option<[u8; 32]>
     ensures { result ≡ signature_at bytes.now }
 {
-    let (value, rest) = field(Key::Signature, bytes)?;
+    let (value, rest) = field(PacketKey::Signature, bytes)?;
     if !rest.is_empty() {
         return None;
     }
@@ -139,9 +139,9 @@ fn signature(bytes: &[u8]) -> Option<[u8; 32]>
 pub(crate) fn view(bytes: &[u8]) -> Option<RawView<'_>>
     ensures { result ≡ v1_of bytes.now }
 {
-    let (location, rest) = field(Key::Location, bytes)?;
+    let (location, rest) = field(PacketKey::Location, bytes)?;
     let location = text(location)?;
-    let (identifier, caveats) = field(Key::Identifier, rest)?;
+    let (identifier, caveats) = field(PacketKey::Identifier, rest)?;
     let (tally, rest) = Tally::of(Version::V1, caveats)?;
     let sig = signature(rest)?;
     Some(RawView {

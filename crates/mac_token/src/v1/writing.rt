@@ -7,7 +7,7 @@ ghost use Rattle.mac_token.specs.Limits.{AreShort};
 ghost use Rattle.mac_token.specs.RawToken.{byte_lists};
 ghost use Rattle.mac_token.specs.V1.{Field, packet, packet_length, hex_digit, hex_digits, v1_bytes, caveat_field};
 
-use super::key::Key;
+use super::key::PacketKey;
 use crate::fault::NoMemory;
 use crate::limits::{CAVEAT_MAX, CAVEATS_MAX};
 use crate::token::Token;
@@ -30,7 +30,7 @@ fn hex_digit(value: usize) -> u8
 }
 
 /// How many bytes a packet has.
-fn packet_len(key: Key, value: &[u8]) -> usize
+fn packet_len(key: PacketKey, value: &[u8]) -> usize
     ensures { result ≡ packet_length (record { key = key; value = value.now }) }
 {
     4 + key.name_and_space().len() + value.len() + 1
@@ -38,7 +38,7 @@ fn packet_len(key: Key, value: &[u8]) -> usize
 
 /// Appends a packet.
 #[tactic(auto, unfolding(crate::specs::V1::packet))]
-fn put_packet(out: &mut Vec<u8>, key: Key, value: &[u8]) -> Result<(), NoMemory>
+fn put_packet(out: &mut Vec<u8>, key: PacketKey, value: &[u8]) -> Result<(), NoMemory>
     ensures { OnOk result (out.new.items
         ≡ out.old.items ++ packet (record { key = key; value = value.now })) }
 {
@@ -65,7 +65,7 @@ fn caveats_len(caveats: &[Vec<u8>]) -> usize
 {
     let mut len = 0;
     for caveat in caveats {
-        len += packet_len(Key::Cid, caveat);
+        len += packet_len(PacketKey::Cid, caveat);
     }
     len
 }
@@ -77,10 +77,10 @@ pub(crate) fn written_len(token: &Token) -> usize
     ensures bound { result < 2 ^ 32 }
 {
     let caveats = caveats_len(token.caveat_list());
-    packet_len(Key::Location, token.location().as_bytes())
-        + packet_len(Key::Identifier, token.identifier())
+    packet_len(PacketKey::Location, token.location().as_bytes())
+        + packet_len(PacketKey::Identifier, token.identifier())
         + caveats
-        + packet_len(Key::Signature, &token.sig())
+        + packet_len(PacketKey::Signature, &token.sig())
 }
 
 /// Appends a token's first two packets.
@@ -91,20 +91,20 @@ pub(crate) fn put_head(
 ) -> Result<(), NoMemory>
     ensures { OnOk result (out.new.items ≡ out.old.items ++ v1_head location.now identifier.now) }
 {
-    put_packet(out, Key::Location, location)?;
-    put_packet(out, Key::Identifier, identifier)
+    put_packet(out, PacketKey::Location, location)?;
+    put_packet(out, PacketKey::Identifier, identifier)
 }
 
 /// Appends a caveat's packet.
 pub(crate) fn put_caveat(out: &mut Vec<u8>, caveat: &[u8]) -> Result<(), NoMemory>
     ensures { OnOk result (out.new.items ≡ out.old.items ++ packet (caveat_field caveat.now)) }
 {
-    put_packet(out, Key::Cid, caveat)
+    put_packet(out, PacketKey::Cid, caveat)
 }
 
 /// Appends the signature's packet.
 pub(crate) fn put_signature(out: &mut Vec<u8>, sig: &[u8]) -> Result<(), NoMemory>
     ensures { OnOk result (out.new.items ≡ out.old.items ++ v1_end sig.now) }
 {
-    put_packet(out, Key::Signature, sig)
+    put_packet(out, PacketKey::Signature, sig)
 }

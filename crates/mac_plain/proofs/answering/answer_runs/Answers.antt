@@ -2,7 +2,7 @@ use Rattle.std.proofs.Common.{◌-◌, List, drop, take, take_all, rules, subst,
 use Rattle.mac_board.specs.Noticed.{lent_current}
 use Rattle.mac_plain.specs.Goes.{AreAnswered}
 use Rattle.mac_plain.specs.Requests.{asked_of}
-use Rattle.mac_plain.specs.declared.request.Request.{Request}
+use Rattle.mac_plain.specs.declared.request.RoundRequest.{RoundRequest}
 use Rattle.mac_plain.proofs.Pairs.{more_answered, nobody_goes, run_more}
 use Rattle.mac_plain.proofs.answering.answer_runs.Goals as goal
 
@@ -16,7 +16,7 @@ loop-at-preserved g c =
     let requests = c.args.round.requests.now in
     record {
       inside = omega (arith, c.min-end.ensures);
-      answered = subst (λ (l : List Request). AreAnswered g.P.Port.tells g.P.Port.taken g.P.Port.written (lent_current c.args.round.current) (λ k. asked_of k c.args.round.arena.now l) c.args.clients.now
+      answered = subst (λ (l : List RoundRequest). AreAnswered g.P.Port.tells g.P.Port.taken g.P.Port.written (lent_current c.args.round.current) (λ k. asked_of k c.args.round.arena.now l) c.args.clients.now
           c.answer_some.new.clients) (run_more at end requests (omega (arith, c.min-end.ensures, c.loop-at.invariant.inside)))
           (more_answered g.P.Port.tells g.P.Port.taken g.P.Port.written (lent_current c.args.round.current) c.args.round.arena.now (take at requests) (take (end - at) (drop at requests)) c.args.clients.now c.loop-at.clients
           c.answer_some.new.clients (search rules) c.loop-at.invariant.answered c.answer_some.ensures);
@@ -24,5 +24,5 @@ loop-at-preserved g c =
 
 pub returns : goal.returns
 returns g c =
-    subst (λ (l : List Request). AreAnswered g.P.Port.tells g.P.Port.taken g.P.Port.written (lent_current c.args.round.current) (λ k. asked_of k c.args.round.arena.now l) c.args.clients.now c.loop-at.clients)
+    subst (λ (l : List RoundRequest). AreAnswered g.P.Port.tells g.P.Port.taken g.P.Port.written (lent_current c.args.round.current) (λ k. asked_of k c.args.round.arena.now l) c.args.clients.now c.loop-at.clients)
     (take_all c.loop-at.at c.args.round.requests.now (omega (arith, c.loop-at-test.false))) c.loop-at.invariant.answered

@@ -3,13 +3,13 @@ use Rattle.std.proofs.lemmas.List.Elements.{All-nil}
 use Rattle.mac_plain.specs.Requests.{AreWithin}
 use Rattle.mac_plain.specs.Receiving.{Receives}
 use Rattle.mac_plain.specs.declared.client.Client.{Client}
-use Rattle.mac_plain.specs.declared.request.Request.{Request}
+use Rattle.mac_plain.specs.declared.request.RoundRequest.{RoundRequest}
 use Rattle.mac_plain.proofs.Pairs.{one_read, read_at, still_read}
 use Rattle.mac_plain.proofs.round.receive_all.Goals as goal
 
 pub loop-index-init : goal.loop-index-init
 loop-index-init g c = record {
-  within = subst (AreWithin (length c.args.intake.now.arena.items)) (sym c.requires) (All-nil (λ (r : Request). (r.start ≤ r.end) × (r.end ≤ length c.args.intake.now.arena.items)));
+  within = subst (AreWithin (length c.args.intake.now.arena.items)) (sym c.requires) (All-nil (λ (r : RoundRequest). (r.start ≤ r.end) × (r.end ≤ length c.args.intake.now.arena.items)));
   read = λ current. still_read g.P.Port.tells g.P.Port.taken g.P.Port.written current c.args.intake.now.arena.items c.args.intake.now.requests.items c.args.clients.now c.requires;
 }
 

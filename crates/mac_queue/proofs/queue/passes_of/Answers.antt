@@ -1,5 +1,5 @@
 use Rattle.std.proofs.Common.{◌≡◌, ◌-◌, ◌+◌, [], arith, rules, refl, ap, ◌∙◌}
-use Rattle.mac_mail.specs.Mail.{Mail}
+use Rattle.mac_queue.specs.Mail.{Mail}
 use Rattle.mac_queue.specs.Balance.{account}
 use Rattle.mac_queue.specs.declared.queue.account.Account.{Account}
 use Rattle.mac_queue.specs.declared.queue.TheConstants.{PASSES}

@@ -3,8 +3,8 @@ use Rattle.std.proofs.Common.{◌≡◌, ◌+◌, ◌∙◌, ◌++◌, List, [],
 use Rattle.std.specs.Prelude.{IsTrue, Option}
 use Rattle.std.proofs.lemmas.Bool.{eqb-true}
 use Rattle.mac_serve.specs.Receiving.{TakesUnder}
-use Rattle.mac_ring.specs.Ring.{admitted, received, waiting}
-use Rattle.mac_ring.specs.declared.totals.Totals.{Totals}
+use Rattle.mac_order.specs.Ring.{admitted, received, waiting}
+use Rattle.mac_order.specs.declared.totals.Totals.{Totals}
 use Rattle.mac_order.specs.Buffer.{Buffer}
 use Rattle.mac_wire.specs.Frame.{framed}
 use Rattle.mac_wire.specs.Session.{HasCome}

@@ -1,5 +1,5 @@
 -- The intake stays that of the same ring.
-use Rattle.mac_ring.specs.Ring.{IsSameIntake}
+use Rattle.mac_order.specs.Ring.{IsSameIntake}
 use Rattle.try_pool.proofs.rings.admit_all.Given as goal
 
 abbrev pub invariant-loop-job : goal.invariant-loop-job

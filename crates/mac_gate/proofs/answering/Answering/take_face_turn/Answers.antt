@@ -24,7 +24,7 @@ returns g c =
     c.args.spoken.now.went.bytes c.take_turn-written.new.writer.went.bytes c.args.connection.now c.take_turn-written.new.connection =
     face_turn c.args.heard.now.now c.take_turn-written.new.reader.now c.args.spoken.now.went.bytes c.take_turn-written.new.writer.went.bytes first last
     c.args.connection.now c.take_turn-written.new.connection _ c.take_turn-written.ensures.turn (λ face. known_of face.keys) (λ face. face.rules)
-    (λ s q r t x. (x.under, x.looks, x.up, x.rules, x.right)) own c.args.way are in
+    (λ s q r t x. (x.0.under, x.0.looks, x.0.up, x.0.rules, x.0.right)) own c.args.way are in
     followed_turn own c.args.way _ _ (known_of first.keys) (known_of last.keys)
     (ap known_to (sym c.take.ensures.value ∙ c.in-Some.is) ∙ ap (λ keys. Some (known_of keys)) (sym c.new-face.ensures.keys)) (ap (λ keys. Some (known_of keys)) c.into_keys.ensures)
     c.args.heard.now.now c.take_turn-written.new.reader.now c.args.spoken.now.went.bytes c.take_turn-written.new.writer.went.bytes c.args.connection.now c.take_turn-written.new.connection turn

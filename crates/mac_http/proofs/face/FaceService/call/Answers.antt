@@ -19,13 +19,15 @@ returns-clause-ok g c =
       | then-is_ending w ↦ subst (λ (r : Response). MayClose plain r) (sym w.response-is) w.announce_close.ensures
       | else-is_ending w ↦ subst (λ (r : Response). MayClose plain r) (sym w.response-is) (record { status = refl; body = refl; fields = inl refl })
     ] in
-    let counted = noted_once (page_in (uri_path (head_of request).uri)) table face.rules moment request plain c.answer-happened.result c.answer-happened.ensures.happened in
-    record {
-      under = (table, moment);
-      looks = c.look.ensures;
-      up = c.table-keys.ensures;
-      rules = refl {a = face.rules};
-      told = c.tell-moment.ensures;
-      right = (plain, c.answer-happened.ensures.told, closed);
-      noted = c.note_to.ensures ∙ ap (λ (n : ℕ). g.S.Monitor.noted face.monitor + n) counted;
-    }
+    let counted = noted_once (page_in (uri_path (head_of request).uri)) table face.rules moment request plain c.answer-happened.result c.answer-happened.ensures.happened in (
+      record {
+        under = (table, moment);
+        looks = c.look.ensures;
+        up = c.table-keys.ensures;
+        rules = refl {a = face.rules};
+        told = c.tell-moment.ensures;
+        right = (plain, c.answer-happened.ensures.told, closed);
+        noted = c.note_to.ensures ∙ ap (λ (n : ℕ). g.S.Monitor.noted face.monitor + n) counted;
+      },
+      λ page is. (plain, c.answer-happened.ensures.shows page is, closed),
+    )

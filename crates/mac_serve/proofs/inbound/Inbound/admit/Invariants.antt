@@ -1,5 +1,5 @@
 use Rattle.std.proofs.Common.{◌≡◌}
-use Rattle.mac_ring.specs.Ring.{admitted, IsSameIntake}
+use Rattle.mac_order.specs.Ring.{admitted, IsSameIntake}
 use Rattle.mac_serve.proofs.inbound.Inbound.admit.Given as goal
 
 abbrev pub invariant-loop : goal.invariant-loop

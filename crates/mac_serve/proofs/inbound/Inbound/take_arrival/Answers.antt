@@ -1,5 +1,5 @@
 use Rattle.std.proofs.Common.{◌≡◌, ◌++◌, ◌∙◌, ◌∷◌, [], refl, ap}
-use Rattle.mac_ring.specs.Ring.{admitted}
+use Rattle.mac_order.specs.Ring.{admitted}
 use Rattle.mac_decide.specs.Terms.{lent_terms}
 use Rattle.mac_decide.specs.World.{job_under}
 use Rattle.mac_decide.specs.declared.job.Job.{Job}

@@ -1,7 +1,7 @@
 use Rattle.std.proofs.Common.{[], ◌∷◌, ap, ◌∙◌, sym}
 use Rattle.std.proofs.lemmas.List.{append-nil}
 use Rattle.mac_order.specs.Buffer.{Buffer}
-use Rattle.mac_ring.specs.Ring.{received}
+use Rattle.mac_order.specs.Ring.{received}
 use Rattle.mac_decide.specs.declared.job.Job.{Job}
 use Rattle.mac_serve.proofs.SendingLemmas.{grown, stays, then}
 use Rattle.mac_serve.proofs.outbound.Outbound.look.Goals as goal

@@ -1,6 +1,6 @@
 use Rattle.std.proofs.Common.{◌-◌, length}
 use Rattle.std.specs.Prelude.{Ok}
-use Rattle.mac_ring.specs.declared.outlet.TheConstants.{OPEN_SLIPS_MAX}
+use Rattle.mac_order.specs.declared.outlet.TheConstants.{OPEN_SLIPS_MAX}
 use Rattle.mac_serve.specs.Sending.{StepsAlone}
 use Rattle.mac_serve.proofs.outbound.Outbound.look.Given as goal
 

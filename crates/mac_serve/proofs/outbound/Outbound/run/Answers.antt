@@ -1,5 +1,5 @@
 use Rattle.std.proofs.Common.{◌∙◌, ap}
-use Rattle.mac_mail.specs.Taking.{Taking}
+use Rattle.mac_queue.specs.Taking.{Taking}
 use Rattle.mac_decide.specs.declared.job.Job.{Job}
 use Rattle.mac_serve.specs.declared.outbound.Outbound.{Outbound}
 use Rattle.mac_serve.proofs.SendingLemmas.{closed-after}

@@ -1,5 +1,0 @@
-use Rattle.std.proofs.Common.{length}
-use Rattle.mac_daemon.proofs.fleet.+run_loops.Given as goal
-
-abbrev pub decreases-run_loops : goal.decreases-run_loops
-decreases-run_loops g l = length l.made.items

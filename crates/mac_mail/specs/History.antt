@@ -1,8 +1,0 @@
--- What a history has.
-use Rattle.std.specs.Prelude.{List, [], ◌∷◌, ◌++◌}
-use Rattle.mac_mail.specs.declared.history.Pages.{Pages, Blank, After'}
-
--- the entries, the oldest first
-abbrev pub entries : {T : Type 0} → Pages T → List T
-entries Blank = []
-entries (After' marker before entry) = entries before ++ entry.value ∷ []

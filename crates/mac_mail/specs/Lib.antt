@@ -1,5 +1,0 @@
-pub mod Fault
-pub mod History
-pub mod Mail
-pub mod Post
-pub mod Taking
