@@ -11,7 +11,7 @@ use std::os::unix::net::{UnixListener, UnixStream};
 use std::process::Process;
 use std::sync::Wait;
 use std::time::Clock;
-use std::{fs, io, mem, process};
+use std::{fs, io, process};
 
 /// How many bytes stand behind the path while the socket is made: `.new/s` or `.nxt/s`.
 const INSIDE: usize = 6;
@@ -24,8 +24,8 @@ struct Holding {
     is_placed: bool,
     // Whether another socket was in its place at the last look.
     is_replaced: bool,
-    // Whether the system refused a step of the last look.
-    is_refused: bool,
+    // Whether it was told that the system refuses the looks at it.
+    is_told: bool,
 }
 
 /// A socket that was made for a path.
@@ -46,7 +46,7 @@ pub struct PathsLook<'a> {
     /// The path in whose place there is another socket, if there is one: the main one, where that
     /// is among them.
     pub replaced: Option<&'a str>,
-    /// What the system refused, where nothing of that path was refused at the look before.
+    /// What the system refused of one path, once until a look at that path goes well.
     pub refused: Option<PlaceFault>,
 }
 
@@ -99,7 +99,7 @@ impl Holdings {
             lock,
             is_placed: false,
             is_replaced: false,
-            is_refused: false,
+            is_told: false,
         };
         match self.held.push(holding) {
             Ok(()) => Ok(listener),
@@ -135,13 +135,18 @@ impl Holdings {
         }
     }
 
-    /// Takes each lock that was given up since, and looks whether another socket is in a place. What
-    /// is refused is tried again at the next look.
+    /// Takes each lock that was given up since, and looks whether another socket is in a place.
+    /// What is refused is tried again at the next look, and of two paths one is told then.
     pub fn look<R: Files<File = File>>(&mut self, rt: &R, main: &str) -> PathsLook<'_> {
         let mut refused = None;
         for holding in self.held.iter_mut() {
-            if let Some(fault) = holding.look(rt, self.alloc, self.process) {
-                refused = Some(fault);
+            match holding.look(rt, self.alloc, self.process) {
+                Ok(()) => holding.is_told = false,
+                Err(fault) if refused.is_none() && !holding.is_told => {
+                    holding.is_told = true;
+                    refused = Some(fault);
+                }
+                Err(_) => {}
             }
         }
         PathsLook {
@@ -174,26 +179,16 @@ impl Holding {
         Ok(())
     }
 
-    /// Takes the lock where it was given up, and looks whether another socket is in its place. What
-    /// the system refused, unless it refused something at the look before too.
+    /// Takes the lock where it was given up, and looks whether another socket is in its place.
     fn look<R: Files<File = File>>(
         &mut self,
         rt: &R,
         alloc: Global,
         process: Process,
-    ) -> Option<PlaceFault> {
+    ) -> Result<(), PlaceFault> {
         let taken = self.take_lock(rt, alloc, process);
-        let found = self.find_replaced(rt);
-        if let Ok(is_replaced) = &found {
-            self.is_replaced = *is_replaced;
-        }
-        let fault = match (taken, found) {
-            (Err(fault), _) => Some(fault),
-            (Ok(()), Err(fault)) => Some(fault),
-            (Ok(()), Ok(_)) => None,
-        };
-        let was_refused = mem::replace(&mut self.is_refused, fault.is_some());
-        if was_refused { None } else { fault }
+        self.is_replaced = self.find_replaced(rt)?;
+        taken
     }
 
     /// Takes the lock of the path, where only the turn to have it was had, and gives that back. It

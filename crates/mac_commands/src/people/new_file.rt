@@ -167,13 +167,26 @@ fn give_as(file: &File, other: &Metadata) -> io::Result<()> {
     let own = file.metadata()?;
     let is_owners = own.uid() == other.uid();
     let is_theirs = is_owners && own.gid() == other.gid();
-    let is_given = is_theirs || libc::fchown(file.as_raw_fd(), other.uid(), other.gid()) == 0;
+    let is_given = is_theirs || give_to(file, other.uid(), other.gid());
     let permissions = permissions_like(other.mode());
     if is_given || is_owners && permissions & GROUP == 0 {
         file.set_permissions(Permissions::from_mode(permissions))
     } else {
         Err(io::Error::from(ErrorKind::PermissionDenied))
     }
+}
+
+/// Gives a file to an owner and a group, and does so again where a signal broke that off.
+fn give_to(file: &File, owner: u32, group: u32) -> bool {
+    for _ in 0..u64::MAX {
+        if libc::fchown(file.as_raw_fd(), owner, group) == 0 {
+            return true;
+        }
+        if os::errno() != libc::EINTR {
+            return false;
+        }
+    }
+    false
 }
 
 /// The permissions of a file of this mode, or where others than its group may use it or its group
