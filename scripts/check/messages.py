@@ -15,8 +15,8 @@ NO_FOLDER = "there is no such folder; make it first, or give another path"
 NO_PERMISSION = "no permission; let this user write the folder, or give another path"
 TOO_LONG = "the path is too long for a socket; give one of 101 bytes at most"
 NO_KEYS = "the key file has no key; `macaroond keygen NAME` prints a line for it"
-FOLDER = "the key file can't be read: it is a folder; give the path of a file in it"
-UNREADABLE = "the key file can't be read: no permission; give it to the daemon's user"
+FOLDER = "can't be read: it is a folder; give the path of a file in it"
+UNREADABLE = "can't be read: no permission; give it to the daemon's user"
 LONG_FILE = "the key file is longer than a key file may be; 16777216 bytes are read"
 NO_OUTPUT = "standard output failed; give it a place where the first line can be written"
 NO_LINE = "standard output failed; it doesn't say that clients can connect"
@@ -67,9 +67,29 @@ def key_files(folder):
     for words in (listen, serve, check, mint, verify):
         name, socket = words.__name__, f"{folder}/{words.__name__}"
         yield f"{name}: no key file", refused(words(socket, missing)), (3, due)
-        yield f"{name}: a folder", refused(words(socket, inside)), (3, f"error: {inside}: {FOLDER}\n")
+        yield f"{name}: a folder", refused(words(socket, inside)), (3, f"error: {inside}: the key file {FOLDER}\n")
         yield f"{name}: a long file", refused(words(socket, long)), (3, f"error: {long}: {LONG_FILE}\n")
-        yield f"{name}: no permission", refused(words(socket, locked), preexec_fn=become_nobody), (3, f"error: {locked}: {UNREADABLE}\n")
+        due_locked = f"error: {locked}: the key file {UNREADABLE}\n"
+        yield f"{name}: no permission", refused(words(socket, locked), preexec_fn=become_nobody), (3, due_locked)
+
+
+def lists(folder):
+    """A list that is missing, a folder, or not for this user: a daemon and a command tell it alike."""
+    missing, inside, locked, keys = (f"{folder}/{name}" for name in ("missing", "inside", "locked", "keys"))
+    os.mkdir(inside)
+    pathlib.Path(locked).write_text("# none\n")
+    os.chmod(locked, 0)
+    pathlib.Path(keys).write_bytes(KEYS.read_bytes())
+    os.chmod(keys, 0o600)
+    if not os.geteuid():
+        os.chown(keys, NOBODY, NOBODY)
+    due = f"error: {missing}: there is no list of tokens that were taken back\n"
+    for words in (listen, serve, verify):
+        name, asked = words.__name__, words(f"{folder}/{words.__name__}", keys)
+        yield f"{name}: no list", refused([*asked, "--revoked", missing]), (3, due)
+        yield f"{name}: a folder", refused([*asked, "--revoked", inside]), (3, f"error: {inside}: the list {FOLDER}\n")
+        status, error = refused([*asked, "--revoked", locked], preexec_fn=become_nobody)
+        yield f"{name}: no permission", (status, error.splitlines()[-1:]), (3, [f"error: {locked}: the list {UNREADABLE}"])
 
 
 def key_lines(folder):
@@ -148,4 +168,4 @@ def told(page):
 def faults():
     """What went otherwise than it must, and how many checks there were."""
     seen = [("the page's table", told(PAGE.read_text()), [])]
-    return judged([*seen, *in_folders(key_files, key_lines, paths, taken, outputs, mode=0o755)])
+    return judged([*seen, *in_folders(key_files, lists, key_lines, paths, taken, outputs, mode=0o755)])

@@ -1,4 +1,5 @@
-//! Why a key file gives no keys, in words for who starts a daemon and who asks for something once.
+//! Why a file that is named gives nothing, in words for who starts a daemon and who asks for
+//! something once.
 
 use crate::fault::PipeFault;
 use crate::people::PersonFault;
@@ -7,45 +8,42 @@ use std::fs::{File, Files};
 use std::io::ErrorKind;
 use thiserror::Error;
 
-/// Why a key file has no text. A daemon that runs tells of one that is missing in the same words.
+/// Why the system doesn't give the text of a file.
 #[derive(Clone, Copy, Debug, Error)]
-pub enum TextlessFile<'a> {
-    /// There is none.
-    #[error("{path}: there is no key file; `macaroond keygen NAME --into {path}` makes one")]
-    Missing { path: &'a str },
+pub enum ReadRefusal {
+    /// There is no file.
+    #[error("there is none")]
+    Missing,
     /// There is a folder.
-    #[error("{path}: the key file can't be read: it is a folder; give the path of a file in it")]
-    Folder { path: &'a str },
+    #[error("it is a folder; give the path of a file in it")]
+    Folder,
     /// The user of the process may not read it.
-    #[error("{path}: the key file can't be read: no permission; give it to the daemon's user")]
-    Forbidden { path: &'a str },
-    /// The system doesn't give it.
-    #[error("{path}: the key file can't be read; look whether it is a file on a sound disk")]
-    Unreadable { path: &'a str },
-    /// It is longer than what is read.
-    #[error("{path}: the key file is longer than a key file may be; 16777216 bytes are read")]
-    TooLong { path: &'a str },
+    #[error("no permission; give it to the daemon's user")]
+    Forbidden,
+    /// The system tells no more.
+    #[error("look whether it is a file on a sound disk")]
+    Other,
 }
 
-impl<'a> TextlessFile<'a> {
+impl ReadRefusal {
     /// Why the file at a path can't be read.
-    pub(crate) fn find<R: Files>(rt: &R, path: &'a str) -> TextlessFile<'a> {
+    pub(crate) fn find<R: Files>(rt: &R, path: &str) -> ReadRefusal {
         match fs::metadata(rt, path) {
-            Err(refused) => TextlessFile::of_kind(refused.kind(), path),
-            Ok(found) if found.is_dir() => TextlessFile::Folder { path },
+            Err(refused) => ReadRefusal::of_kind(refused.kind()),
+            Ok(found) if found.is_dir() => ReadRefusal::Folder,
             Ok(_) => match File::open(rt, path) {
-                Err(refused) => TextlessFile::of_kind(refused.kind(), path),
-                Ok(_) => TextlessFile::Unreadable { path },
+                Err(refused) => ReadRefusal::of_kind(refused.kind()),
+                Ok(_) => ReadRefusal::Other,
             },
         }
     }
 
     /// Why a file can't be read for which the system gives this error.
-    fn of_kind(kind: ErrorKind, path: &'a str) -> TextlessFile<'a> {
+    fn of_kind(kind: ErrorKind) -> ReadRefusal {
         match kind {
-            ErrorKind::NotFound => TextlessFile::Missing { path },
-            ErrorKind::PermissionDenied => TextlessFile::Forbidden { path },
-            _ => TextlessFile::Unreadable { path },
+            ErrorKind::NotFound => ReadRefusal::Missing,
+            ErrorKind::PermissionDenied => ReadRefusal::Forbidden,
+            _ => ReadRefusal::Other,
         }
     }
 }

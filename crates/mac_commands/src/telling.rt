@@ -5,6 +5,7 @@ ghost use Rattle.mac_commands.specs.Status.{IsShown, list_status, pipe_status, r
 
 use crate::fault::PipeFault;
 use crate::key_fault::say_key_fault;
+use crate::people::PersonFault;
 use crate::status::Status;
 use mac_board::ListRefusal;
 use std::fs::Files;
@@ -55,10 +56,10 @@ pub fn tell_fault<R: Eprint>(rt: &R, status: Status) -> Status
 }
 
 /// Says on standard error why a list of tokens that were taken back isn't taken.
-pub(crate) fn tell_list<R: Eprint>(rt: &R, path: &str, why: ListRefusal) -> Status
+pub(crate) fn tell_list<R: Eprint + Files>(rt: &R, path: &str, why: ListRefusal) -> Status
     ensures { result ≡ list_status why }
 {
-    let _ = eprintln!(rt; "error: {path}: {why}");
+    let _ = eprintln!(rt; "error: {}", PersonFault::of_list(rt, path, why));
     match why {
         ListRefusal::Faulty { .. } => Status::BadKeys,
         _ => Status::DeviceFault,

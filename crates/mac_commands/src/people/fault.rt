@@ -4,7 +4,7 @@ ghost use Rattle.mac_commands.specs.People.{key_file_status, person_status};
 ghost use Rattle.mac_commands.specs.declared.people.fault.PersonFault.TheVariants as fault;
 
 use crate::fault::PipeFault;
-use crate::key_fault::TextlessFile;
+use crate::key_fault::ReadRefusal;
 use crate::status::Status;
 use mac_board::ListRefusal;
 use mac_keys::{ChangeFault, LineFault, RevokedLineFault};
@@ -38,9 +38,22 @@ pub enum PersonFault<'a> {
         line: u64,
         kind: LineFault,
     },
-    /// The key file has no text.
-    #[error("{0}")]
-    KeyText(TextlessFile<'a>),
+    /// There is no key file. A daemon that runs tells of that in the same words.
+    #[error("{path}: there is no key file; `macaroond keygen NAME --into {path}` makes one")]
+    NoKeyFile {
+        path: &'a str,
+    },
+    /// The system doesn't give the key file.
+    #[error("{path}: the key file can't be read: {why}")]
+    KeyText {
+        path: &'a str,
+        why: ReadRefusal,
+    },
+    /// The key file is longer than what is read.
+    #[error("{path}: the key file is longer than a key file may be; 16777216 bytes are read")]
+    LongKeyFile {
+        path: &'a str,
+    },
     /// A line of the key file that was to be checked, counted from 1, and what is wrong with it.
     #[error("{path}: line {line}: {kind}")]
     Checked {
@@ -113,6 +126,12 @@ pub enum PersonFault<'a> {
         path: &'a str,
         why: ListRefusal,
     },
+    /// The system doesn't give the list.
+    #[error("{path}: the list can't be read: {why}")]
+    ListText {
+        path: &'a str,
+        why: ReadRefusal,
+    },
     /// A line of the list that was to be checked, counted from 1, and what is wrong with it.
     #[error("{path}: line {line}: {kind}")]
     CheckedList {
@@ -152,9 +171,26 @@ impl<'a> PersonFault<'a> {
     {
         match fault {
             PipeFault::Keys { line, kind } => PersonFault::KeyLine { path, line, kind },
-            PipeFault::Device => PersonFault::KeyText(TextlessFile::find(rt, path)),
-            PipeFault::TooLong => PersonFault::KeyText(TextlessFile::TooLong { path }),
+            PipeFault::Device => match ReadRefusal::find(rt, path) {
+                ReadRefusal::Missing => PersonFault::NoKeyFile { path },
+                why => PersonFault::KeyText { path, why },
+            },
+            PipeFault::TooLong => PersonFault::LongKeyFile { path },
             PipeFault::Memory => PersonFault::Memory,
+        }
+    }
+
+    /// Why the list at a path, which is refused so, gives none.
+    pub(crate) fn of_list<R: Files>(rt: &R, path: &'a str, why: ListRefusal) -> PersonFault<'a> {
+        match why {
+            ListRefusal::Unreadable => match ReadRefusal::find(rt, path) {
+                ReadRefusal::Missing => PersonFault::List {
+                    path,
+                    why: ListRefusal::Missing,
+                },
+                why => PersonFault::ListText { path, why },
+            },
+            why => PersonFault::List { path, why },
         }
     }
 

@@ -10,8 +10,7 @@ use crate::list_store::read_list_text;
 use mac_board::{ListRefusal, ReadFault};
 use mac_keys::{KeyTable, RevokedFault, RevokedList};
 use std::alloc::{Alloc, AllocError, Global};
-use std::fs::{self, File, Files};
-use std::io::ErrorKind;
+use std::fs::{File, Files};
 
 /// The keys of a file, beside the list of another one where one is named.
 pub(super) fn load_table<'a, R>(
@@ -67,18 +66,9 @@ pub(super) fn fault_of_list<'a, R: Files>(
     let why = match why {
         ReadFault::TooLong => ListRefusal::TooLong,
         ReadFault::Exposed(exposure) => ListRefusal::Exposed(exposure),
-        ReadFault::Unreadable if is_missing(rt, path) => ListRefusal::Missing,
         ReadFault::Unreadable => ListRefusal::Unreadable,
     };
-    PersonFault::List { path, why }
-}
-
-/// Whether nothing is at a path.
-fn is_missing<R: Files>(rt: &R, path: &str) -> bool {
-    match fs::metadata(rt, path) {
-        Ok(_) => false,
-        Err(refused) => refused.kind() == ErrorKind::NotFound,
-    }
+    PersonFault::of_list(rt, path, why)
 }
 
 /// What the text of a list takes back.
