@@ -54,7 +54,8 @@ class Copy:
     It is made once, so the tree may change meanwhile.
     """
 
-    def __init__(self, crate, room, proved):
+    def __init__(self, crate, room, proved, jobs):
+        self.jobs = jobs
         self.kept, self.root = room / "kept" / crate, room / "tree"
         self.folder = self.root / "crates" / crate
         needed = stands_on(crate)
@@ -77,7 +78,7 @@ class Copy:
                 for at, new in body.lines.get(file, {}).items():
                     lines[at] = new
             (self.folder / file).write_text("\n".join(lines))
-        return Report(rt_check(self.folder, self.only(bodies)))
+        return Report(rt_check(self.folder, self.jobs, self.only(bodies)))
 
     def only(self, bodies):
         """The functions whose bodies these are, if that is all that they change."""
@@ -104,10 +105,10 @@ def link_or_copy(source, to):
         shutil.copy2(source, to)
 
 
-def rt_check(folder, only=()):
+def rt_check(folder, jobs, only=()):
     to = {"stdout": subprocess.PIPE, "stderr": subprocess.STDOUT, "text": True, "errors": "replace"}
     words = [word for path in only for word in ("--only", path)]
-    return subprocess.run(["rt", "check", "--jobs", "1", *words], cwd=folder, **to).stdout
+    return subprocess.run(["rt", "check", "--jobs", str(jobs), *words], cwd=folder, **to).stdout
 
 
 def stands_on(crate):
@@ -268,28 +269,28 @@ def bodies_of(crate, source):
     return bodies, bad
 
 
-def proved_in(crate):
+def proved_in(crate, jobs):
     """The functions of a crate that are proved as it stands: by what `make build` kept, else by a check of the whole."""
     if kept := proving.proved_functions(crate):
         return kept
-    said = rt_check(TOP / "crates" / crate)
+    said = rt_check(TOP / "crates" / crate, jobs)
     return proving.functions_in(said) if "\nlogic=proved" in said else []
 
 
-def try_crate(crate, anew=False):
-    """A verdict on each of the crate's wrong bodies: those that are kept, and those of new checks."""
+def try_crate(crate, jobs, anew=False):
+    """A verdict on each of the crate's wrong bodies: those that are kept, and those of new checks by so many jobs."""
     kept = Kept(TOP, crate, stands_on(crate), edits_of(crate))
     bodies, found = bodies_of(crate, Source(TOP / "crates" / crate))
     if not anew:
         found += [Verdict(it, Kind[kind], said) for it, (kind, said) in kept.valid().items()]
     if len(found) == len(edits_of(crate)):
         return found
-    proved = proved_in(crate)
+    proved = proved_in(crate, jobs)
     if not proved:
         return [*found, Verdict("as it stands", Kind.NOT_PROVED, "its own check fails")]
     settled = {it.body for it in found}
     with tempfile.TemporaryDirectory(prefix="wrong-bodies-") as room:
-        copy = Copy(crate, Path(room), proved)
+        copy = Copy(crate, Path(room), proved, jobs)
         for batch in batches_of([it for it in bodies if it.name not in settled]):
             for came in tried(batch, copy):
                 kept.keep({it.body: (it.kind.name, it.said) for it in came})
@@ -336,8 +337,10 @@ def crates_with_edits():
 def try_all(crates, given):
     """Tries the wrong bodies of these crates. Whether none failed."""
     counts = collections.Counter()
-    with ThreadPoolExecutor(given.jobs) as pool:
-        for crate, found in zip(crates, pool.map(lambda it: try_crate(it, given.anew), crates)):
+    side_by_side = min(given.jobs, len(crates))
+    with ThreadPoolExecutor(side_by_side) as pool:
+        tries = pool.map(lambda it: try_crate(it, max(1, os.cpu_count() // side_by_side), given.anew), crates)
+        for crate, found in zip(crates, tries):
             counts += (own := tell(crate, found, given.all))
             if given.record and not own[Kind.NOT_PROVED]:
                 record(TOP, crate, [own[it] for it in COUNTED])
