@@ -6,9 +6,11 @@
 In each of so many rounds (5) they are asked over a port of loopback, for so many seconds (4), by 64
 connections that are kept: a verify of 3 caveats. macaroond is asked with `--remember 0`, which hashes
 each token anew as Go does, and without. Told are requests a second, the processor time a request, and
-the middle of each round's ratios to Go's. Then, of macaroond alone, the processor time of /healthz,
-and what 256 idle connections cost. Asks for bin/macaroond, or the program that MACAROOND names, for
-bin/go_http (bench/go_http/build.sh), and for Debian's wrk.
+the middle of each round's ratios to Go's. So is a bare loop in C that parses and decides nothing, and
+writes the same answer to whatever it reads (bare_http.c): no server that reads each request by itself
+is faster, or costs less. Then, of macaroond alone, the processor time of /healthz, and what 256 idle
+connections cost. Asks for bin/macaroond, or the program that MACAROOND names, for bin/go_http
+(bench/go_http/build.sh), for Debian's wrk, and for a C compiler.
 """
 import contextlib
 import os
@@ -35,6 +37,7 @@ CONNECTIONS, IDLE, SILENT = 64, 256, 5
 CAVEATS = [b"account = 1", b"time < 2100-01-01T00:00", b"time < 2101-01-01T00:00"]
 FIELDS = [f"Authorization: Macaroon {v2(b'alice', CAVEATS)}", "Macaroon-Fact: account = 1"]
 TICK = 1e6 / os.sysconf("SC_CLK_TCK")
+BARE = pathlib.Path(__file__).with_name("bare_http.c")
 # Go's collector by its default, and less often: whoever runs a service for speed sets that.
 GO = {**os.environ, "GOGC": "400"}
 
@@ -60,6 +63,11 @@ def macaroond(folder, port):
 
 def go(folder, port):
     return [str(TOP / "bin" / "go_http"), f"127.0.0.1:{port}", f"{folder}/keys"], GO
+
+
+def bare(folder, port):
+    subprocess.run(["cc", "-O2", "-o", f"{folder}/bare", BARE, "-lpthread"], check=True)
+    return [f"{folder}/bare", str(port)], None
 
 
 @contextlib.contextmanager
@@ -115,7 +123,7 @@ def idle():
 
 def main():
     rounds, seconds = [int(word) for word in sys.argv[1:3]] + [5, 4][len(sys.argv[1:3]) :]
-    services = {"macaroond --remember 0": macaroond, "macaroond": remembering, "Go": go}
+    services = {"macaroond --remember 0": macaroond, "macaroond": remembering, "a bare loop": bare, "Go": go}
     found = [[measured(it, "/verify/bank", seconds, FIELDS) for it in services.values()] for _ in range(rounds)]
     for name, figures in zip(services, zip(*found)):
         told(f"{name}, a verify of 3 caveats", middle(figures))
