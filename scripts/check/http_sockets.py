@@ -302,6 +302,19 @@ def slow_peers():
                 yield f"one that never reads over {where}: {took:.1f} s", took < 4 * PATIENT, True
 
 
+def uneven_pieces():
+    """A head in many small pieces and then in large ones is answered, however the pieces are cut."""
+    with listening() as daemon:
+        for where, connect in (("Unix", daemon.unix), ("TCP", daemon.tcp)):
+            for last in (3_700, 4_000, 4_400):
+                with connect() as stream:
+                    stream.sendall(b"GET /healthz HTTP/1.1\r\nHost: a\r\nB: ")
+                    for size in [60] * 70 + [last, 500, 8_192]:
+                        time.sleep(0.001)
+                        stream.sendall(b"b" * size)
+                    yield f"a head in uneven pieces over {where}, {last}", asked(stream, b"\r\n\r\n"), 200
+
+
 def full_house():
     """To one connection too many the one gives way that was sent nothing for longest, if for long enough."""
     with listening("--http-connections", "3") as daemon:
@@ -420,7 +433,7 @@ def refusals():
         yield "how it ends", daemon.told_to_end()[1], 0
 
 
-PARTS = (statuses, rules, names, gateways_never_mint, strict_paths, changing_keys, slow_peers, full_house, ends, waiting, refusals)
+PARTS = (statuses, rules, names, gateways_never_mint, strict_paths, changing_keys, slow_peers, uneven_pieces, full_house, ends, waiting, refusals)
 
 
 def faults():

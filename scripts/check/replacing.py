@@ -10,7 +10,7 @@ import time
 from check.daemon_rows import MINT, NO_REQUEST, TOKEN
 from check.ending import Asking, ended, fill, started
 from check.http_sockets import asked, asking
-from common import KEYS, daemon
+from common import KEYS, daemon, processes
 from common.daemon import awaited, come_to, connected, frame, received, refused
 from common.rows import in_folders, judged
 
@@ -22,6 +22,8 @@ PATIENCE = 60
 WAITING = 50
 # What the name of the file ends in whose lock is the turn to have a path's lock next.
 TURN = ".next.lock"
+# How many lines a list has that takes a daemon some tenths of a second to read.
+LONG_LIST = 500_000
 # How many daemons start at once to take one place, and how often.
 CROWD, ROUNDS = 6, 3
 MINTING, MINTED = frame(MINT), frame(b"\x01" + TOKEN)
@@ -114,6 +116,33 @@ def faulty(folder):
         stream.sendall(frame(b""))
         yield "the first one answers", received(stream, len(NO_REQUEST)), NO_REQUEST
     keys.unlink()
+    yield "nothing is left behind", left_behind(folder), []
+    run.send_signal(signal.SIGTERM)
+    yield "and ends as ever", ended(run)[0], 0
+
+
+def holds_back(run):
+    """Whether a daemon that starts holds back the signal that tells it to end, for the thread that waits for it."""
+    return int(processes.status(run.pid)["SigBlk"], 16) >> (signal.SIGTERM - 1) & 1 == 1
+
+
+def told_as_it_starts(folder):
+    """One that is told to end while it reads its files takes nothing from the one that is there."""
+    path, revoked = f"{folder}/start", pathlib.Path(folder) / "revoked"
+    run = started(path)
+    revoked.write_text("".join(f"revoked bank {number:08x}\n" for number in range(LONG_LIST)))
+    revoked.chmod(0o600)
+    pipes = {"stdout": subprocess.PIPE, "stderr": subprocess.PIPE, "text": True}
+    second = subprocess.Popen(daemon.command(path, "--replace", "--revoked", revoked), **pipes)
+    awaited(lambda: holds_back(second))
+    second.send_signal(signal.SIGTERM)
+    said = second.communicate(timeout=PATIENCE)[0]
+    yield "it ends and never listens", (second.returncode, said), (0, "")
+    time.sleep(1.2)
+    with connected(path) as stream:
+        stream.sendall(frame(b""))
+        yield "the first one answers", received(stream, len(NO_REQUEST)), NO_REQUEST
+    revoked.unlink()
     yield "nothing is left behind", left_behind(folder), []
     run.send_signal(signal.SIGTERM)
     yield "and ends as ever", ended(run)[0], 0
@@ -263,5 +292,5 @@ def moved(folder):
 
 
 def faults():
-    parts = [under_load, alone, twice_spelled, faulty, twice, ended_early, crowded, told_besides, all_sockets]
+    parts = [under_load, alone, twice_spelled, faulty, told_as_it_starts, twice, ended_early, crowded, told_besides, all_sockets]
     return judged(in_folders(*parts, waiting, one_of_two, moved))

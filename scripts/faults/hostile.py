@@ -21,6 +21,9 @@ same is done over HTTP. And 600 send them at the second socket, beside one who s
 Then 64 and 640 clients send requests of 5 KiB whose replies have 30, and read them slowly, some 36 KB in
 ten seconds; once what they sent first is answered, a verify of 8 KiB is timed beside them.
 
+Then 1,500 clients, one after the other, send a small request with one of the dearest behind it, and close at
+once. One that stays waits with such a request behind them, before one worker.
+
 Then 63 clients that never read send requests whose replies are the largest beside them, as many as
 the daemon takes, and the daemon, now with all arenas, stays below PEAK_MAX. Asks for bin/macaroond,
 or the program that MACAROOND names.
@@ -40,9 +43,9 @@ import time
 
 sys.path.insert(0, str(pathlib.Path(__file__).resolve().parents[1]))
 from common import daemon, programs
-from common.daemon import awaited, come_to, frame
+from common.daemon import awaited, come_to, frame, received
 from common.processes import allow_descriptors, mebibytes, status, timed_calmly
-from faults.dear import beside_dear, beside_side, late_of, told_of
+from faults.dear import beside_dear, beside_side, dearest_request, late_of, seconds_of, told_of
 
 import client
 import request
@@ -60,6 +63,8 @@ SILENT, PEAK_MAX = 63, 450
 # within how many seconds that has to be, and how many seconds of its waits the 99th percentile may be.
 SLOW_CROWDS, SLOW_BYTES, SLOW_REQUESTS = (64, 640), 3_600, 40
 SLOW_SECONDS, QUICK_WAITS, SLOW_SETTLING, SLOW_WAIT_MAX = 3, 50, 30, 0.1
+# How many clients go at once behind a dear request, and how many seconds one may wait behind them.
+DESERTERS, DESERTED_WAIT_MAX = 1_500, 0.5
 # A caveat that JSON writes with six letters for a byte, and how many of them fill a token.
 CONTROL, CONTROLS = "hex:" + "01" * 1000, 5
 
@@ -302,6 +307,21 @@ def beside_slow(path):
             yield f"beside {count} clients that read slowly a verify of 8 KiB waited {late_of(waits):.3f} s (p99)"
 
 
+def behind_deserters(path):
+    """What is wrong with the wait of a dear request behind those of clients that have gone, if anything: nobody waits for
+    their answers."""
+    dear = dearest_request()
+    for _ in range(DESERTERS):
+        with contextlib.suppress(OSError), connected(path) as stream:
+            stream.sendall(frame(request.verify("bank", "", 0)) + dear)
+    with connected(path) as stream:
+        stream.sendall(dear)
+        wait, reply = seconds_of(lambda: received(stream, len(frame(b"\x00"))))
+    print(f"hostile: a dear request behind those of {DESERTERS} clients that have gone waited {wait:.3f} s")
+    if len(reply) < len(frame(b"\x00")) or wait > DESERTED_WAIT_MAX:
+        yield f"behind {DESERTERS} clients that have gone a dear request waited {wait:.3f} s"
+
+
 def listening(*words):
     """A daemon that listens: its socket's path and its process."""
     return daemon.listening("--workers", "4", *words, stderr=subprocess.DEVNULL)
@@ -317,6 +337,8 @@ def faults(seconds):
         found += beside_side(path, f"{folder}/side")
     with listening() as (path, _):
         found += beside_slow(path)
+    with daemon.listening("--workers", "1", "--loops", "1", stderr=subprocess.DEVNULL) as (path, _):
+        found += behind_deserters(path)
     with listening() as (path, run):
         found += fill(path, run.pid)
     return [f"hostile: {fault}" for fault in found]

@@ -142,6 +142,7 @@ where
 
 impl Daemon {
     /// Puts the sockets that are held in their places, so that clients can connect, and tells that.
+    /// Where it was told to end meanwhile, what is in these places stays there.
     pub fn open<R>(
         &self,
         rt: &R,
@@ -151,6 +152,9 @@ impl Daemon {
     where
         R: Files + Print + Eprint + Wait + Clock,
     {
+        if self.host.ending().is_ending(rt) {
+            return Ok(());
+        }
         holdings.place_all(rt)?;
         say_listening(rt, terms);
         self.host.notices().tell_begin(rt, beginning_of(terms));

@@ -118,6 +118,11 @@ impl HttpConnection {
         }
     }
 
+    /// Whether it waits for a turn among those with a dear request.
+    pub fn is_waiting(&self) -> bool {
+        self.note.waits_since.is_some()
+    }
+
     /// It waits for a turn no more. Since when it did, in microseconds.
     pub fn end_wait(&mut self) -> Option<u64>
         ensures { past_of self.new ≡ past_of self.old }

@@ -7,6 +7,7 @@ ghost use Rattle.std.specs.IoError.{error_kind};
 ghost use Rattle.mac_gate.specs.Pace.{is_due};
 
 use crate::pace::{LOOK_MICROS, Pace};
+use mac_http::CONFIG;
 use std::alloc::Global;
 use std::io;
 use std::io::ErrorKind;
@@ -92,7 +93,8 @@ impl Gathered {
         self.give(buf, now)
     }
 
-    /// Puts what was gathered into the buffer, as much as fits.
+    /// Puts what was gathered into the buffer, as much as fits and a connection has room for at any
+    /// time.
     fn give(&mut self, buf: &mut [u8], now: u64) -> io::Result<usize>
         ensures bound { ReadsAtMost result buf.new }
         ensures kept { IfOk result (λ told. take told buf.new ++ self.new.bytes.items
@@ -100,7 +102,7 @@ impl Gathered {
         ensures err { OnErr result (self.new ≡ self.old) }
         ensures memory { IfErr result (λ fault. error_kind fault ≡ ErrorKind.OutOfMemory) }
     {
-        let count = self.bytes.len().min(buf.len());
+        let count = self.bytes.len().min(buf.len()).min(CONFIG.read_size);
         let rest = Vec::from_slice(self.alloc, &self.bytes[count..])?;
         buf[..count].copy_from_slice(&self.bytes[..count]);
         self.bytes = rest;

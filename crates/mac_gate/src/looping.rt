@@ -26,6 +26,9 @@ use std::sync::{Arc, Wait};
 use std::thread::{Builder, Promise, PromisedHandle, Threads};
 use std::time::{Clock, Duration};
 
+/// How many connections a loop takes in between two turns at most.
+const NEWCOMERS_MAX: usize = 64;
+
 /// A loop with its connections: the same is offered to each of them.
 #[derive(Drop)]
 pub struct HttpLoop {
@@ -135,37 +138,40 @@ impl HttpLoop {
             self.connections.wait(rt);
             // Behind the last arrival the server is closed.
             let is_closed = server.is_closed();
-            self.take_in_all(rt, alloc, server);
+            // What has come is answered before a newcomer has somebody give way.
             self.advance_ready(rt, server, answering);
+            let are_all_in = self.take_in_waiting(rt, alloc, server);
             self.sweep(rt, server);
             self.settle(rt, server);
-            let is_over = is_closed && self.connections.count() == 0;
+            let is_over = is_closed && are_all_in && self.connections.count() == 0;
             if is_over {
                 return;
             }
         }
     }
 
-    /// Takes in the connections that were handed over.
-    fn take_in_all<R: Wait + Clock + RandomSource>(
+    /// Takes in connections that were handed over: all of them, or as many as a loop takes between
+    /// two turns, and comes back for the others. Whether it has them all.
+    fn take_in_waiting<R: Wait + Clock + RandomSource>(
         &mut self,
         rt: &R,
         alloc: Global,
         server: &Shared,
-    )
+    ) -> bool
         ensures { self.new.offer ≡ self.old.offer }
     {
-        let mut has_come = false;
-        for _ in rt.forever() {
+        for count in 0..NEWCOMERS_MAX {
             let Some(newcomer) = server.take(rt, self.number) else {
-                break;
+                if count > 0 {
+                    server.note_stalest(self.number, self.connections.stalest_since());
+                }
+                return true;
             };
             self.receive(rt, alloc, server, newcomer);
-            has_come = true;
         }
-        if has_come {
-            server.note_stalest(self.number, self.connections.stalest_since());
-        }
+        server.note_stalest(self.number, self.connections.stalest_since());
+        server.wake(self.number);
+        false
     }
 
     /// Takes a connection in that was handed over. Where one is to give way to it, that is the one

@@ -178,6 +178,13 @@ impl Shared {
         self.wake_loops();
     }
 
+    /// Has a loop look at who was handed to it.
+    pub fn wake(&self, number: usize) {
+        if let Some(side) = self.sides.get(number) {
+            side.inbox.wake();
+        }
+    }
+
     fn wake_loops(&self) {
         for side in self.sides.iter() {
             side.inbox.wake();

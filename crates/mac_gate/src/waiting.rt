@@ -388,9 +388,9 @@ impl Waiting {
         self.connections.slots.bound()
     }
 
-    /// Lets the connection of a slot go, where its peer has taken too long, and looks again at one
-    /// that is owed something. So an event that was missed delays it, and no more. Whether one was
-    /// let go.
+    /// Lets the connection of a slot go, where its peer has taken too long and it waits for no turn
+    /// itself, and looks again at one that is owed something. So an event that was missed delays
+    /// it, and no more. Whether one was let go.
     pub fn look(&mut self, slot: usize) -> bool
         ensures { StayInPlace self.old.connections.slots self.new.connections.slots }
     {
@@ -398,7 +398,7 @@ impl Waiting {
             return false;
         };
         let (left, is_owed) = (one.left(self.patience, self.now()), one.is_owed());
-        if left.is_none() {
+        if left.is_none() && !one.is_waiting() {
             return self.release(slot);
         }
         if is_owed {

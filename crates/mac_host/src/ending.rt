@@ -88,6 +88,12 @@ impl DaemonEnd {
         self.change.notify_all();
     }
 
+    /// Whether the daemon was told to end, or has ended by itself.
+    pub fn is_ending<R: Wait>(&self, rt: &R) -> bool {
+        let standing = self.standing.lock(rt);
+        standing.is_ending()
+    }
+
     /// Waits until the daemon has begun, or has ended. Whether it has begun.
     pub fn await_begin<R: Wait>(&self, rt: &R) -> bool {
         let standing = self.standing.lock(rt);

@@ -4,12 +4,15 @@
 ghost use Rattle.std.specs.Prelude.{◌≡◌};
 ghost use Rattle.mac_loop.specs.Asks.{home_of};
 
+use crate::members::Member;
+use crate::register::Origin;
 use crate::socket_queues::SocketQueues;
 use mac_count::AnsweredRequest;
 use mac_decide::{Job, Macaroons};
 use mac_host::Socket;
 use mac_order::Answer;
 use mac_queue::{Desk, Post};
+use mac_slots::Slots;
 use mio::Waker;
 use slab::Slab;
 use std::alloc::Global;
@@ -19,6 +22,9 @@ use std::sync::Wait;
 /// How many jobs of a loop are in the line for each worker at most: one that the worker has, and
 /// the next one.
 const FOR_EACH_WORKER: usize = 2;
+
+/// From how many jobs on that wait it is looked whose clients have ended.
+const SIFTED_MIN: usize = 8;
 
 /// Who asked: the client of a slot, by the number of its connection.
 #[derive(Clone, Copy)]
@@ -64,6 +70,16 @@ pub(crate) struct Asks {
     unput: SocketQueues<Ask>,
     // How many of its jobs are in the line at a time, at most.
     most: usize,
+    // How many waited at the last look at whose clients have ended, or at any moment since.
+    sifted: usize,
+}
+
+impl Asker {
+    /// Whether the client that asked is still in its slot.
+    fn is_there<O: Origin>(&self, slots: &Slots<Member<O>>) -> bool {
+        let member = slots.get(self.slot);
+        member.is_some_and(|member| member.note.badge.number == self.number)
+    }
 }
 
 impl Model for Asks {
@@ -88,6 +104,7 @@ impl Asks {
             askers: Slab::new(alloc),
             unput: SocketQueues::new(alloc),
             most: workers.saturating_mul(FOR_EACH_WORKER),
+            sifted: 0,
         }
     }
 
@@ -100,6 +117,7 @@ impl Asks {
             askers: _,
             unput: _,
             most: _,
+            sifted: _,
         } = self;
         desk
     }
@@ -124,6 +142,29 @@ impl Asks {
     /// Whether jobs wait for room in the line.
     pub fn has_unput(&self) -> bool {
         self.unput.len() > 0
+    }
+
+    /// Drops the jobs that aren't in the line and whose clients have ended, where there may be as
+    /// many of these as of others. No client may be out of its slot.
+    pub fn sift<O: Origin>(&mut self, slots: &Slots<Member<O>>)
+        ensures { self.new ≡ self.old }
+    {
+        self.sifted = self.sifted.min(self.unput.len());
+        if self.unput.len() < self.sifted.saturating_mul(2).max(SIFTED_MIN) {
+            return;
+        }
+        self.sift_at(Socket::Main, slots);
+        self.sift_at(Socket::Side, slots);
+        self.sifted = self.unput.len();
+    }
+
+    /// The same of those that came in at a socket.
+    fn sift_at<O: Origin>(&mut self, socket: Socket, slots: &Slots<Member<O>>)
+        ensures { self.new ≡ self.old }
+    {
+        let askers = &mut self.askers;
+        self.unput
+            .retain(socket, |ask| is_awaited(askers, slots, ask.place));
     }
 
     /// Puts jobs that wait into the line, as far as there is room now, and no more than the workers
@@ -158,6 +199,18 @@ impl Asks {
         let asker = self.askers.try_remove(place as usize)?;
         Some(Answered { asker, answer })
     }
+}
+
+/// Whether the client that asked at a place is still there. Else nobody waits at that place any more.
+fn is_awaited<O: Origin>(askers: &mut Slab<Asker>, slots: &Slots<Member<O>>, place: u64) -> bool {
+    let is_there = match askers.get(place as usize) {
+        Some(asker) => asker.is_there(slots),
+        None => false,
+    };
+    if !is_there {
+        let _ = askers.try_remove(place as usize);
+    }
+    is_there
 }
 
 /// Puts a job into the line from a desk. Where there is no room it comes back.

@@ -185,7 +185,7 @@ impl<O: Origin> Loop<O> {
         ensures told { HasTold self.new }
     {
         let patience = self.patience(asks);
-        self.roll.wait(rt, patience);
+        self.roll.wait(rt, Some(patience));
         self.now = microseconds_of(self.roll.now());
         self.take_in_all(rt, loops, outlook, watch);
         self.take_answers(rt, asks, watch);
@@ -206,15 +206,14 @@ impl<O: Origin> Loop<O> {
         loops.tell_unsent(&mut self.told, self.roll.unsent());
     }
 
-    /// For how long it waits at most where no client is ready.
-    fn patience(&self, asks: &Asks) -> Option<Duration> {
-        if self.roll.slots().count() == 0 {
-            return None;
-        }
-        if asks.has_unput() {
-            return Some(Duration::from_micros(RETRY));
-        }
-        Some(Duration::from_micros(self.sweep_span()))
+    /// For how long it waits at most where no client is ready. Without clients it waits no longer
+    /// either: each turn lets go of a table that is no longer up.
+    fn patience(&self, asks: &Asks) -> Duration {
+        Duration::from_micros(if asks.has_unput() {
+            RETRY
+        } else {
+            self.sweep_span()
+        })
     }
 
     /// Fits the next turn to the microseconds that this one took, and shares clients with other

@@ -204,7 +204,11 @@ impl<O: Origin> Member<O> {
     }
 
     /// The job for a worker, where it asks for what a loop must not answer: from then on it waits.
+    /// One that takes no replies any more asks for nothing.
     pub fn ask(&mut self, alloc: Global, current: Current<'_>) -> Option<Job> {
+        if self.client.is_over() {
+            return None;
+        }
         self.client.ask(alloc, current)
     }
 

@@ -1,6 +1,8 @@
 //! What waits at a daemon's two sockets, and is taken in turn.
 
 ghost use Rattle.std.specs.Prelude.{◌≡◌, ◌↔◌, [], IfNone, IfSome, IsTrue, OnOk};
+ghost use Rattle.std.specs.Fn.{CalledAt};
+ghost use Rattle.std.specs.List.Retain.{IsFiltered};
 ghost use Rattle.mac_loop.specs.SocketQueues.{AreEmpty, HasRoom, IsPut, IsPutBack};
 ghost use Rattle.mac_loop.specs.SocketQueues.{IsTakenInTurn, other_of, waiting};
 
@@ -77,6 +79,20 @@ impl<T: Drop> SocketQueues<T> {
         };
         self.next = other_of(socket);
         Some((socket, one))
+    }
+
+    /// Keeps those of a socket alone that are to be kept, in their order.
+    pub(crate) fn retain<F: FnMut(&T) -> bool>(&mut self, socket: Socket, keeps: F)
+        requires { F.IsAlwaysCallable keeps }
+        ensures kept { IsFiltered (CalledAt F.FnMut) keeps
+            (waiting self.old socket) (waiting self.new socket) }
+        ensures there { waiting self.new (other_of socket) ≡ waiting self.old (other_of socket) }
+        ensures next { self.new.next ≡ self.old.next }
+    {
+        match socket {
+            Socket::Main => self.main.retain(keeps),
+            Socket::Side => self.side.retain(keeps),
+        }
     }
 
     /// Whether nobody waits at a socket.

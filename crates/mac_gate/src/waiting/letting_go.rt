@@ -61,15 +61,17 @@ impl Waiting {
         Some(since)
     }
 
-    /// The slot of the connection to which nothing was sent for longest, and when something was.
+    /// The slot of the connection to which nothing was sent for longest, of those that don't wait
+    /// for a turn, and when something was.
     fn stalest(&self) -> Option<(usize, u64)> {
         let mut stalest: Option<(usize, u64)> = None;
         for slot in 0..self.bound() {
-            if let Some(one) = self.connections.slots.get(slot) {
-                let since = one.since();
-                if stalest.is_none_or(|(_, other)| since < other) {
-                    stalest = Some((slot, since));
-                }
+            let Some(one) = self.connections.slots.get(slot) else {
+                continue;
+            };
+            let since = one.since();
+            if !one.is_waiting() && stalest.is_none_or(|(_, other)| since < other) {
+                stalest = Some((slot, since));
             }
         }
         stalest

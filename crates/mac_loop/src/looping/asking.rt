@@ -40,7 +40,8 @@ impl<O: Origin> Loop<O> {
         }
     }
 
-    /// Gives clients the answers that have come, and puts as many jobs more into the line.
+    /// Gives clients the answers that have come, and puts as many jobs more into the line. Those of
+    /// clients that have ended meanwhile are let go.
     pub(super) fn take_answers<R: Wait, W: Watch>(&mut self, rt: &R, asks: &mut Asks, watch: &W)
         ensures { asks.new ≡ asks.old }
     {
@@ -50,6 +51,7 @@ impl<O: Origin> Loop<O> {
             };
             self.hand_back(answered, watch);
         }
+        asks.sift(self.roll.slots());
         asks.put_more(rt);
     }
 

@@ -6,6 +6,7 @@ use crate::looping::Loop;
 use crate::members::Progress;
 use crate::register::Origin;
 use crate::watch::{PlainFault, Watch};
+use mac_plain::Course;
 use mac_sockets::Readiness;
 use std::sync::Wait;
 use std::time::Clock;
@@ -65,7 +66,8 @@ impl<O: Origin> Loop<O> {
 
     /// How many microseconds pass between two looks at who makes progress.
     pub(super) fn sweep_span(&self) -> u64 {
-        if self.idle.is_some() || self.is_owing {
+        let has_some = self.roll.slots().count() > 0;
+        if has_some && (self.idle.is_some() || self.is_owing) {
             SWEEP
         } else {
             SWEEP_SELDOM
@@ -102,7 +104,8 @@ impl<O: Origin> Loop<O> {
         };
         let waited = self.now.saturating_sub(since);
         let progress = member.note.progress;
-        let is_due = is_listed && !progress.has_begun;
+        let is_held = member.client.course() == Course::Held;
+        let is_due = is_listed && (is_held || !progress.has_begun);
         !is_due
             && self
                 .patience_with(progress)
