@@ -85,10 +85,21 @@ def functions_in(said):
     return FUNCTION.findall(said)
 
 
+def functions_kept(name):
+    """The functions of a crate that earlier proofs named: one that finds them unchanged doesn't name them again."""
+    kept = TOP / "crates" / name / "out" / PROVED
+    return kept.read_text().split() if kept.exists() else []
+
+
 def proved_functions(name):
     """The functions of a crate that were proved as it is now; nothing where it wasn't."""
-    kept = TOP / "crates" / name / "out" / PROVED
-    return kept.read_text().split("\n") if is_proved(name) and kept.exists() else []
+    return functions_kept(name) if is_proved(name) else []
+
+
+def keep(path, text):
+    """Writes a file anew: another tree may have a link to what was there."""
+    path.unlink(missing_ok=True)
+    path.write_text(text)
 
 
 def told(what, begin):
@@ -117,8 +128,8 @@ def prove(name, jobs):
             stop(name, status, said)
         room.bring_back(*rooms.KEPT)
         out = TOP / "crates" / name / "out"
-        (out / PROVED).write_text("\n".join(functions_in(said)))
-        (out / SEEN).write_text(f"{rests_on} {built_of(name)}\n")
+        keep(out / PROVED, "\n".join(dict.fromkeys([*functions_kept(name), *functions_in(said)])))
+        keep(out / SEEN, f"{rests_on} {built_of(name)}\n")
     told(f"proved {name}", begin)
 
 
