@@ -15,8 +15,8 @@ ghost use Rattle.mac_loop.specs.Verified.{identifier_verified, token_verified, v
 use mac_count::asked_word;
 use mac_host::{Exchange, LoggedReason, copy_identifier_of, copy_told_identifier, copy_told_name};
 use mac_wire::{
-    Arrival, Cut, FeedFault, FrameReader, Refusal, ReplyKind, Request, Version,
-    key_name, next_frame, parse_request, reply_kind, request_kind,
+    Arrival, Cut, FeedFault, FrameReader, Refusal, ReplyKind, Request, Version, key_name,
+    next_frame, parse_request, reply_kind, request_kind,
 };
 use std::alloc::{AllocError, Global};
 use std::cell::RefCell;
