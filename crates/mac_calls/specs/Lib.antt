@@ -4,6 +4,7 @@ pub mod Gives
 pub mod Form
 pub mod Counted
 pub mod Asking
+pub mod Call
 pub mod Object
 pub mod Members
 pub mod Received

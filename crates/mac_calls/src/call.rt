@@ -1,7 +1,10 @@
 //! What is called for.
 
 ghost use Rattle.std.specs.Prelude.{◌≡◌};
+ghost use Rattle.mac_calls.specs.Call.{call_kind, call_word};
 ghost use Rattle.mac_calls.specs.Object.{is_known};
+
+use mac_wire::RequestKind;
 
 /// A call.
 #[derive(Clone, Copy, Debug, PartialEq, Eq)]
@@ -19,6 +22,31 @@ pub enum Call {
 }
 
 impl Call {
+    /// The kind of the request that asks the same in a frame, where there is one.
+    pub fn kind(self) -> Option<RequestKind>
+        ensures { result ≡ call_kind self }
+    {
+        match self {
+            Call::Mint => Some(RequestKind::Mint),
+            Call::Attenuate => Some(RequestKind::Attenuate),
+            Call::Verify => Some(RequestKind::Verify),
+            Call::Inspect | Call::Check => None,
+        }
+    }
+
+    /// The word for it, which is that of its kind where it has one.
+    pub fn word(self) -> &'static str
+        ensures { result.now ≡ call_word self }
+    {
+        match self {
+            Call::Mint => RequestKind::Mint.word(),
+            Call::Attenuate => RequestKind::Attenuate.word(),
+            Call::Inspect => "inspect",
+            Call::Check => "check",
+            Call::Verify => RequestKind::Verify.word(),
+        }
+    }
+
     /// Whether the body of the call may have a member of this name.
     pub(crate) fn knows(self, name: &str) -> bool
         ensures { result ≡ is_known self name.now }

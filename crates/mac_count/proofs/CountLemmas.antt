@@ -1,17 +1,17 @@
 -- Requests that are counted one after the other.
-use Rattle.std.proofs.Common.{◌≡◌, ℕ, ◌+◌, ◌<◌, ◌==◌, Bool, true, false, cond, List, [], ◌∷◌, Some, None, length, refl, ap, ◌∙◌, arith}
+use Rattle.std.proofs.Common.{◌≡◌, ℕ, ◌+◌, ◌<◌, ◌==◌, Bool, true, false, cond, List, [], ◌∷◌, Option, Some, None, length, refl, ap, ◌∙◌, arith}
 use Rattle.std.specs.Prelude.{min}
 use Rattle.std.proofs.lemmas.Bool.Decides.{nat_tests}
 use Rattle.std.proofs.lemmas.Grind.{common_steps}
 use Rattle.std.proofs.lemmas.List.Sums.{sum_by-cons}
 use Rattle.std.proofs.lemmas.List.{get_or-set_same, get_or-set_other, length-set}
-use Rattle.mac_count.specs.declared.number.Asked.{Asked}
-use Rattle.mac_count.specs.declared.number.Asked.TheVariants as asked
 use Rattle.mac_count.specs.declared.number.Told.{Told}
 use Rattle.mac_count.specs.declared.number.Told.TheVariants as told
 use Rattle.mac_count.specs.declared.number.AnsweredRequest.{AnsweredRequest}
 use Rattle.mac_count.specs.declared.number.TheConstants.{REQUESTS}
 use Rattle.mac_wire.specs.declared.reply.Refusal.TheVariants as refusal
+use Rattle.mac_wire.specs.declared.request.RequestKind.{RequestKind}
+use Rattle.mac_wire.specs.declared.request.RequestKind.TheVariants as request_kind
 use Rattle.mac_count.specs.Number.{request_place}
 use Rattle.mac_count.specs.RequestCounts.{count_of, counted, with_counted, with_all_counted}
 
@@ -25,7 +25,7 @@ own-place : (counts : List ℕ) (kind request : AnsweredRequest) → (request_pl
     → counted (with_counted counts request) kind ≡ min (counted counts kind + 1) 18_446_744_073_709_551_615
 own-place counts kind request own within = grind (arith, nat_tests, common_steps, get_or-set_same)
 
-told-within : (t : Told) → request_place (record { asked = asked.Nothing; told = t }) < 64
+told-within : (t : Told) → request_place (record { asked = None; told = t }) < 64
 told-within told.Granted = omega arith
 told-within told.Token = omega arith
 told-within told.Unsatisfied = omega arith
@@ -43,11 +43,11 @@ told-within (told.Refused (Some refusal.NotAllowed)) = omega arith
 told-within (told.Refused (Some refusal.NoClock)) = omega arith
 told-within (told.Refused (Some refusal.Revoked)) = omega arith
 
-asked-told-within : (a : Asked) (t : Told) → request_place (record { asked = a; told = t }) < 64
-asked-told-within asked.Mint t = let last = told-within t in omega arith
-asked-told-within asked.Attenuate t = let last = told-within t in omega arith
-asked-told-within asked.Verify t = let last = told-within t in omega arith
-asked-told-within asked.Nothing t = told-within t
+asked-told-within : (a : Option RequestKind) (t : Told) → request_place (record { asked = a; told = t }) < 64
+asked-told-within (Some request_kind.Mint) t = let last = told-within t in omega arith
+asked-told-within (Some request_kind.Attenuate) t = let last = told-within t in omega arith
+asked-told-within (Some request_kind.Verify) t = let last = told-within t in omega arith
+asked-told-within None t = told-within t
 
 pub all_counted : (counts : List ℕ) (kind : AnsweredRequest) (requests : List AnsweredRequest) → length counts ≡ REQUESTS
     → counted counts kind + length requests < 18_446_744_073_709_551_616

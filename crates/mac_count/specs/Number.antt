@@ -3,13 +3,14 @@ use Rattle.std.specs.Prelude.{◌≡◌, ℕ, ◌+◌, ◌*◌, List, [], ◌∷
 use Rattle.std.specs.List.{flat_map}
 use Rattle.mac_count.specs.declared.number.Number.{Number}
 use Rattle.mac_count.specs.declared.number.Number.TheVariants as number
-use Rattle.mac_count.specs.declared.number.Asked.{Asked}
-use Rattle.mac_count.specs.declared.number.Asked.TheVariants as asked
 use Rattle.mac_count.specs.declared.number.AnsweredRequest.{AnsweredRequest}
 use Rattle.mac_count.specs.declared.number.Told.{Told}
 use Rattle.mac_count.specs.declared.number.Told.TheVariants as told
 use Rattle.mac_wire.specs.declared.reply.Refusal.{Refusal}
 use Rattle.mac_wire.specs.declared.reply.Refusal.TheVariants as refusal
+use Rattle.mac_wire.specs.declared.request.RequestKind.{RequestKind}
+use Rattle.mac_wire.specs.declared.request.RequestKind.TheVariants as request_kind
+use Rattle.mac_wire.specs.Request.{request_word}
 
 -- the name of a number
 abbrev pub number_word : Number → List ℕ
@@ -76,12 +77,10 @@ number_place number.ConnectionsHeavy = 15
 abbrev pub all_numbers : List Number
 all_numbers = number.StartedAt ∷ number.Connections ∷ number.ConnectionsPlain ∷ number.ConnectionsWide ∷ number.ConnectionsTotal ∷ number.ConnectionsAtLimit ∷ number.ConnectionsFaulty ∷ number.RequestsWide ∷ number.BytesIn ∷ number.BytesOut ∷ number.KeyNames ∷ number.KeysReadAt ∷ number.KeysRefused ∷ number.ConnectionsHttp ∷ number.Revoked ∷ number.ConnectionsHeavy ∷ []
 
--- the word for what a request asks for
-abbrev pub asked_word : Asked → List ℕ
-asked_word asked.Mint = codes "mint"
-asked_word asked.Attenuate = codes "attenuate"
-asked_word asked.Verify = codes "verify"
-asked_word asked.Nothing = codes "nothing"
+-- the word for what a request asks for, if it asks for anything that there is
+abbrev pub asked_word : Option RequestKind → List ℕ
+asked_word (Some kind) = request_word kind
+asked_word None = codes "nothing"
 
 -- the word for what it was answered: a token that was taken back has one of its own
 abbrev pub told_word : Told → List ℕ
@@ -97,11 +96,12 @@ abbrev pub told_reason : Told → Option Refusal
 told_reason (told.Refused reason) = reason
 told_reason _ = None
 
-abbrev asked_place : Asked → ℕ
-asked_place asked.Mint = 0
-asked_place asked.Attenuate = 1
-asked_place asked.Verify = 2
-asked_place asked.Nothing = 3
+-- the place of what a request asks for among all that one may
+abbrev pub asked_place : Option RequestKind → ℕ
+asked_place (Some request_kind.Mint) = 0
+asked_place (Some request_kind.Attenuate) = 1
+asked_place (Some request_kind.Verify) = 2
+asked_place None = 3
 
 abbrev refusal_place : Refusal → ℕ
 refusal_place refusal.BadRequest = 0
@@ -130,8 +130,9 @@ abbrev pub request_place : AnsweredRequest → ℕ
 request_place r = 16 * asked_place r.asked + told_place r.told
 
 -- what a request may ask for, in the order in which it is written
-abbrev pub all_asked : List Asked
-all_asked = asked.Mint ∷ asked.Attenuate ∷ asked.Verify ∷ asked.Nothing ∷ []
+abbrev pub all_asked : List (Option RequestKind)
+all_asked =
+    Some request_kind.Mint ∷ Some request_kind.Attenuate ∷ Some request_kind.Verify ∷ None ∷ []
 
 -- what it may be answered, in that order
 abbrev pub all_told : List Told
@@ -145,7 +146,7 @@ all_told =
     told.Refused (Some refusal.NoClock) ∷ told.Refused (Some refusal.Revoked) ∷ []
 
 -- requests that ask this, one for each answer
-abbrev pub requests_of : Asked → List AnsweredRequest
+abbrev pub requests_of : Option RequestKind → List AnsweredRequest
 requests_of what = map (λ answer. record { asked = what; told = answer }) all_told
 
 -- all requests, in the order in which they are written

@@ -2,7 +2,6 @@
 use Rattle.std.specs.Prelude.{ℕ, List, [], ◌∷◌, ◌++◌, Option, Some, None, codes, slice_index}
 use Rattle.std.specs.Fmt.{decimal}
 use Rattle.std.specs.List.{flat_map}
-use Rattle.mac_count.specs.declared.number.Asked.{Asked}
 use Rattle.mac_count.specs.declared.number.Number.{Number}
 use Rattle.mac_count.specs.declared.number.AnsweredRequest.{AnsweredRequest}
 use Rattle.mac_count.specs.declared.number.Told.{Told}
@@ -11,6 +10,7 @@ use Rattle.mac_count.specs.Number.{all_told, asked_word, number_kind, number_pla
 use Rattle.mac_count.specs.Number.{request_place, told_reason, told_word}
 use Rattle.mac_wire.specs.Reply.{refusal_code}
 use Rattle.mac_wire.specs.declared.reply.Refusal.{Refusal}
+use Rattle.mac_wire.specs.declared.request.RequestKind.{RequestKind}
 
 -- the value of a number
 abbrev pub number_value : Snapshot → Number → ℕ
@@ -44,11 +44,11 @@ request_line s r =
     ++ (code_text (told_reason r.told) ++ 32 ∷ value_text (request_value s r))))
 
 -- the lines of requests that ask this, one for each of these answers
-abbrev pub lines_for : Snapshot → Asked → List Told → List ℕ
+abbrev pub lines_for : Snapshot → Option RequestKind → List Told → List ℕ
 lines_for s what answers = flat_map (λ answer. request_line s (record { asked = what; told = answer })) answers
 
 -- one for each answer
-abbrev pub lines_of : Snapshot → Asked → List ℕ
+abbrev pub lines_of : Snapshot → Option RequestKind → List ℕ
 lines_of s what = lines_for s what all_told
 
 -- the line that tells Prometheus whether a metric only grows
@@ -80,9 +80,9 @@ request_metric s r =
     codes "macaroond_requests_total{" ++ (labels_text r ++ (codes "} " ++ value_text (request_value s r)))
 
 -- the same of requests that ask this, one for each of these answers
-abbrev pub metrics_for : Snapshot → Asked → List Told → List ℕ
+abbrev pub metrics_for : Snapshot → Option RequestKind → List Told → List ℕ
 metrics_for s what answers = flat_map (λ answer. request_metric s (record { asked = what; told = answer })) answers
 
 -- one for each answer
-abbrev pub metrics_of : Snapshot → Asked → List ℕ
+abbrev pub metrics_of : Snapshot → Option RequestKind → List ℕ
 metrics_of s what = metrics_for s what all_told

@@ -17,7 +17,7 @@ mod times;
 mod version;
 
 pub use counters::Counters;
-pub use number::{ASKED, AnsweredRequest, Asked, NUMBERS, Number, REQUESTS, TOLD, Told};
+pub use number::{ASKED, AnsweredRequest, NUMBERS, Number, REQUESTS, TOLD, Told, asked_word};
 pub use request_counts::RequestCounts;
 pub use snapshot::Snapshot;
 pub use std::alloc::AllocError as NoMemory;

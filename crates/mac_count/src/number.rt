@@ -1,10 +1,11 @@
 //! What is counted.
 
 ghost use Rattle.std.specs.Prelude.{◌≡◌, ◌<◌};
-ghost use Rattle.mac_count.specs.Number.{asked_word, number_kind, number_place, number_word};
-ghost use Rattle.mac_count.specs.Number.{request_place, told_place, told_reason, told_word};
+ghost use Rattle.mac_count.specs.Number.{asked_place, asked_word, number_kind, number_place};
+ghost use Rattle.mac_count.specs.Number.{number_word, request_place, told_place, told_reason};
+ghost use Rattle.mac_count.specs.Number.{told_word};
 
-use mac_wire::Refusal;
+use mac_wire::{Refusal, RequestKind};
 
 /// How many numbers there are beside those of requests.
 pub const NUMBERS: usize = 16;
@@ -17,6 +18,14 @@ pub const TOLD: usize = 16;
 
 /// How many numbers there are of requests: one for each thing asked and each answer.
 pub const REQUESTS: usize = ASKED * TOLD;
+
+/// What a request may ask for, in the order in which it is written.
+pub(crate) const ALL_ASKED: [Option<RequestKind>; ASKED] = [
+    Some(RequestKind::Mint),
+    Some(RequestKind::Attenuate),
+    Some(RequestKind::Verify),
+    None,
+];
 
 /// A number that stands alone.
 #[derive(Clone, Copy, Debug, PartialEq, Eq)]
@@ -55,19 +64,6 @@ pub enum Number {
     ConnectionsHeavy,
 }
 
-/// What a request asks for.
-#[derive(Clone, Copy, Debug, PartialEq, Eq)]
-pub enum Asked {
-    /// A new token.
-    Mint,
-    /// A token with further caveats.
-    Attenuate,
-    /// Whether a token holds.
-    Verify,
-    /// Nothing that there is.
-    Nothing,
-}
-
 /// What a request was answered.
 #[derive(Clone, Copy, PartialEq, Eq)]
 pub enum Told {
@@ -85,8 +81,8 @@ pub enum Told {
 /// A request: what it asked for, and what it was answered.
 #[derive(Clone, Copy, PartialEq, Eq)]
 pub struct AnsweredRequest {
-    /// What it asked for.
-    pub asked: Asked,
+    /// What it asked for, if it asked for anything that there is.
+    pub asked: Option<RequestKind>,
     /// What it was answered.
     pub told: Told,
 }
@@ -169,20 +165,24 @@ impl Number {
     }
 }
 
-impl Asked {
-    /// All of them, in the order in which they are written.
-    pub const ALL: [Asked; ASKED] = [Asked::Mint, Asked::Attenuate, Asked::Verify, Asked::Nothing];
+/// The word for what a request asks for.
+pub fn asked_word(asked: Option<RequestKind>) -> &'static str
+    ensures { result.now ≡ asked_word asked }
+{
+    match asked {
+        Some(kind) => kind.word(),
+        None => "nothing",
+    }
+}
 
-    /// The word for it.
-    pub fn word(self) -> &'static str
-        ensures { result.now ≡ asked_word self }
-    {
-        match self {
-            Asked::Mint => "mint",
-            Asked::Attenuate => "attenuate",
-            Asked::Verify => "verify",
-            Asked::Nothing => "nothing",
-        }
+/// The place of what a request asks for among all that one may.
+fn asked_place(asked: Option<RequestKind>) -> usize
+    ensures place { result ≡ asked_place asked }
+    ensures within { result < ASKED }
+{
+    match asked {
+        Some(kind) => kind as usize,
+        None => 3,
     }
 }
 
@@ -251,6 +251,6 @@ impl AnsweredRequest {
         ensures place { result ≡ request_place self }
         ensures within { result < REQUESTS }
     {
-        TOLD * self.asked as usize + self.told.place()
+        TOLD * asked_place(self.asked) + self.told.place()
     }
 }

@@ -9,10 +9,10 @@ ghost use Rattle.mac_count.specs.Texts.{request_line, request_metric, status_lin
 ghost use Rattle.mac_count.specs.Texts.{type_line, value_line, value_text};
 
 use crate::NoMemory;
-use crate::number::{AnsweredRequest, Asked, Number, Told};
+use crate::number::{ALL_ASKED, AnsweredRequest, Number, Told, asked_word};
 use crate::snapshot::Snapshot;
 use crate::time_texts::{append_times, append_times_lines};
-use mac_wire::Refusal;
+use mac_wire::{Refusal, RequestKind};
 use std::alloc::Global;
 
 /// Appends a line for each number, its name and its value, for people and for scripts.
@@ -20,7 +20,7 @@ pub fn append_status(alloc: Global, snapshot: &Snapshot, out: &mut Vec<u8>) -> R
     ensures { OnOk result (out.new.items ≡ out.old.items ++ status_text snapshot.now) }
 {
     append_status_lines(alloc, snapshot, &Number::ALL, out)?;
-    append_request_lines(alloc, snapshot, &Asked::ALL, out)?;
+    append_request_lines(alloc, snapshot, &ALL_ASKED, out)?;
     append_times_lines(alloc, snapshot, out)
 }
 
@@ -30,7 +30,7 @@ pub fn append_metrics(alloc: Global, snapshot: &Snapshot, out: &mut Vec<u8>) -> 
 {
     append_numbers(alloc, snapshot, &Number::ALL, out)?;
     out.extend_from_slice(b"# TYPE macaroond_requests_total counter\n")?;
-    append_requests(alloc, snapshot, &Asked::ALL, out)?;
+    append_requests(alloc, snapshot, &ALL_ASKED, out)?;
     append_times(alloc, snapshot, out)
 }
 
@@ -74,7 +74,7 @@ fn append_status_line(
 fn append_request_lines(
     alloc: Global,
     snapshot: &Snapshot,
-    asked: &[Asked],
+    asked: &[Option<RequestKind>],
     out: &mut Vec<u8>,
 ) -> Result<(), NoMemory>
     ensures { OnOk result
@@ -90,7 +90,7 @@ fn append_request_lines(
 fn append_lines_of(
     alloc: Global,
     snapshot: &Snapshot,
-    asked: Asked,
+    asked: Option<RequestKind>,
     answers: &[Told],
     out: &mut Vec<u8>,
 ) -> Result<(), NoMemory>
@@ -114,7 +114,7 @@ fn append_request_line(
     ensures { OnOk result (out.new.items ≡ out.old.items ++ request_line snapshot.now request) }
 {
     out.extend_from_slice(b"requests ")?;
-    out.extend_from_slice(request.asked.word().as_bytes())?;
+    out.extend_from_slice(asked_word(request.asked).as_bytes())?;
     out.extend_from_slice(b" ")?;
     out.extend_from_slice(request.told.word().as_bytes())?;
     append_code(alloc, request.told.reason(), out)?;
@@ -192,7 +192,7 @@ fn append_metric_value(
 fn append_requests(
     alloc: Global,
     snapshot: &Snapshot,
-    asked: &[Asked],
+    asked: &[Option<RequestKind>],
     out: &mut Vec<u8>,
 ) -> Result<(), NoMemory>
     ensures { OnOk result
@@ -208,7 +208,7 @@ fn append_requests(
 fn append_metrics_of(
     alloc: Global,
     snapshot: &Snapshot,
-    asked: Asked,
+    asked: Option<RequestKind>,
     answers: &[Told],
     out: &mut Vec<u8>,
 ) -> Result<(), NoMemory>
@@ -243,7 +243,7 @@ fn append_labels(alloc: Global, request: AnsweredRequest, out: &mut Vec<u8>) -> 
     ensures { OnOk result (out.new.items ≡ out.old.items ++ labels_text request) }
 {
     out.extend_from_slice(b"asked=\"")?;
-    out.extend_from_slice(request.asked.word().as_bytes())?;
+    out.extend_from_slice(asked_word(request.asked).as_bytes())?;
     out.extend_from_slice(b"\",told=\"")?;
     out.extend_from_slice(request.told.word().as_bytes())?;
     out.extend_from_slice(b"\"")?;

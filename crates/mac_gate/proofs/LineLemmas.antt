@@ -10,7 +10,8 @@ use Rattle.mac_host.specs.Requested.{judged, with_id, with_identifier, with_reas
 use Rattle.mac_host.specs.declared.exchange.Exchange.{Exchange}
 use Rattle.mac_host.specs.declared.exchange.LoggedReason.{LoggedReason}
 use Rattle.mac_http.specs.declared.noted.Noted.{Noted}
-use Rattle.mac_gate.specs.Noting.{AreNotedAlike, IsExchangeOf, asks_word, logged_reason, verdict_word}
+use Rattle.mac_calls.specs.Call.{call_word}
+use Rattle.mac_gate.specs.Noting.{AreNotedAlike, IsExchangeOf, logged_reason, verdict_word}
 
 -- no name is told for one that isn't
 none_told : is_told_name [] ≡ false
@@ -33,7 +34,7 @@ same_name fields a b same = named_by fields a b (is_told_name a) (is_told_name b
 same_judged : (fields : FieldsText) (identifiers : Bool) (one other : Noted) (e f : Exchange) → AreNotedAlike identifiers one other
     → IsExchangeOf identifiers one e → IsExchangeOf identifiers other f → judged fields e ≡ judged fields f
 same_judged fields identifiers one other e f alike is_e is_f =
-    let asks : e.asks.now ≡ f.asks.now = is_e.asks ∙ ap asks_word alike.asks ∙ sym is_f.asks in
+    let asks : e.asks.now ≡ f.asks.now = is_e.asks ∙ ap call_word alike.asks ∙ sym is_f.asks in
     let names : told_name e.name.items ≡ told_name f.name.items = ap told_name is_e.name ∙ alike.name ∙ ap told_name (sym is_f.name) in
     let verdict : e.verdict.now ≡ f.verdict.now = is_e.verdict ∙ ap (λ a. verdict_word a one.status) alike.asks
     ∙ ap (λ s. verdict_word other.asks s) alike.status ∙ sym is_f.verdict in

@@ -8,6 +8,8 @@ use Rattle.mac_decide.specs.declared.uses.KeyUse.TheVariants.{Granted, Minted, N
 use Rattle.mac_decide.specs.declared.uses.NameCounts.{NameCounts}
 use Rattle.mac_decide.specs.declared.uses.Signer.{Signer}
 use Rattle.mac_decide.specs.declared.uses.Signer.TheVariants.{Either, First, Second}
+use Rattle.mac_wire.specs.Request.{request_word}
+use Rattle.mac_wire.specs.declared.request.RequestKind.TheVariants as request_kind
 
 -- all uses, in the order in which they are written
 abbrev pub all_uses : List KeyUse
@@ -23,11 +25,11 @@ signer_word Either = codes "either"
 
 -- the words for a use: what was asked for, what was answered, and which key signed
 abbrev pub asked_word : KeyUse → List ℕ
-asked_word Minted = codes "mint"
-asked_word NotMinted = codes "mint"
-asked_word (Granted signer) = codes "verify"
-asked_word (Unsatisfied signer) = codes "verify"
-asked_word Refused = codes "verify"
+asked_word Minted = request_word request_kind.Mint
+asked_word NotMinted = request_word request_kind.Mint
+asked_word (Granted signer) = request_word request_kind.Verify
+asked_word (Unsatisfied signer) = request_word request_kind.Verify
+asked_word Refused = request_word request_kind.Verify
 
 abbrev pub told_word : KeyUse → List ℕ
 told_word Minted = codes "token"

@@ -1,22 +1,24 @@
 -- What a request over HTTP is counted and logged as (this project's own).
 use Rattle.std.specs.Prelude.{◌≡◌, ℕ, Bool, true, false, ◌==◌, ◌||◌, if◌then◌else◌, Option, Some, None, List, codes}
 use Rattle.std.specs.Prelude.{option_copied, option_map, take}
-use Rattle.mac_count.specs.declared.number.Asked.TheVariants as asked
 use Rattle.mac_count.specs.declared.number.AnsweredRequest.{AnsweredRequest}
 use Rattle.mac_count.specs.declared.number.Told.{Told}
 use Rattle.mac_count.specs.declared.number.Told.TheVariants as told
+use Rattle.mac_calls.specs.Call.{call_kind, call_word}
+use Rattle.mac_calls.specs.declared.call.Call.{Call}
+use Rattle.mac_calls.specs.declared.call.Call.TheVariants as call
 use Rattle.mac_host.specs.Exchange.{noted_identifier, told_id, told_name}
 use Rattle.mac_host.specs.declared.exchange.Exchange.{Exchange}
 use Rattle.mac_host.specs.declared.exchange.TheConstants.{IDENTIFIER_NOTED}
 use Rattle.mac_host.specs.declared.exchange.LoggedReason.{LoggedReason}
 use Rattle.mac_host.specs.declared.exchange.LoggedReason.TheVariants.{Code, Caveat, Status}
-use Rattle.mac_http.specs.declared.noted.Asks.{Asks}
-use Rattle.mac_http.specs.declared.noted.Asks.TheVariants as asks
 use Rattle.mac_http.specs.declared.noted.Noted.{Noted}
 use Rattle.mac_http.specs.declared.reason.Reason.{Reason}
 use Rattle.mac_http.specs.declared.reason.Reason.TheVariants as reason
 use Rattle.mac_token.specs.Read.{read_of}
 use Rattle.mac_wire.specs.Reply.{refusal_code}
+use Rattle.mac_wire.specs.declared.request.RequestKind.{RequestKind}
+use Rattle.mac_wire.specs.declared.request.RequestKind.TheVariants as request_kind
 
 -- the status says that what was asked for was done
 abbrev pub is_well : ℕ → Bool
@@ -36,16 +38,16 @@ abbrev pub told_of_call : Option Reason → ℕ → Told
 told_of_call (Some (reason.Refused why)) status = told.Refused (Some why)
 told_of_call _ status = if is_well status then told.Token else told.Refused None
 
--- what a request is counted as, if it is: what needs no key isn't
-abbrev pub counted_as : Asks → Option Reason → ℕ → Option AnsweredRequest
-counted_as asks.Verify why status =
-    Some (record { asked = asked.Verify; told = told_of_verify why status })
-counted_as asks.Mint why status =
-    Some (record { asked = asked.Mint; told = told_of_call why status })
-counted_as asks.Attenuate why status =
-    Some (record { asked = asked.Attenuate; told = told_of_call why status })
-counted_as asks.Inspect why status = None
-counted_as asks.Check why status = None
+-- the same of a request of any kind
+abbrev pub told_of : RequestKind → Option Reason → ℕ → Told
+told_of request_kind.Verify why status = told_of_verify why status
+told_of request_kind.Mint why status = told_of_call why status
+told_of request_kind.Attenuate why status = told_of_call why status
+
+-- what a request is counted as, if it is: what no frame asks isn't
+abbrev pub counted_as : Call → Option Reason → ℕ → Option AnsweredRequest
+counted_as asks why status =
+    option_map (λ kind. record { asked = Some kind; told = told_of kind why status }) (call_kind asks)
 
 -- why a request wasn't done, as its line tells it: the number of the refusal, or the index of the
 -- caveat; where there is neither, the status alone tells it
@@ -54,29 +56,21 @@ logged_reason (Some (reason.Refused why)) status = Some (Code (refusal_code why)
 logged_reason (Some (reason.Unsatisfied index)) status = Some (Caveat index)
 logged_reason None status = if is_well status then None else Some (Status status)
 
--- the word for what a request asks for
-abbrev pub asks_word : Asks → List ℕ
-asks_word asks.Verify = codes "verify"
-asks_word asks.Mint = codes "mint"
-asks_word asks.Attenuate = codes "attenuate"
-asks_word asks.Inspect = codes "inspect"
-asks_word asks.Check = codes "check"
-
 -- the word for what a request was answered that was done
-abbrev pub well_word : Asks → List ℕ
-well_word asks.Verify = codes "granted"
-well_word asks.Mint = codes "token"
-well_word asks.Attenuate = codes "token"
-well_word asks.Inspect = codes "told"
-well_word asks.Check = codes "told"
+abbrev pub well_word : Call → List ℕ
+well_word call.Verify = codes "granted"
+well_word call.Mint = codes "token"
+well_word call.Attenuate = codes "token"
+well_word call.Inspect = codes "told"
+well_word call.Check = codes "told"
 
 -- the same of one that wasn't, with this status: what is refused to a verify by 403 is a caveat
-abbrev pub unwell_word : Asks → ℕ → List ℕ
-unwell_word asks.Verify status = if status == 403 then codes "unsatisfied" else codes "refused"
+abbrev pub unwell_word : Call → ℕ → List ℕ
+unwell_word call.Verify status = if status == 403 then codes "unsatisfied" else codes "refused"
 unwell_word _ status = codes "refused"
 
 -- the same of either
-abbrev pub verdict_word : Asks → ℕ → List ℕ
+abbrev pub verdict_word : Call → ℕ → List ℕ
 verdict_word asks status = if is_well status then well_word asks else unwell_word asks status
 
 -- what an identifier begins with, if there is one
@@ -92,7 +86,7 @@ identifier_of false signed = None
 -- what is logged of a request that was noted, with identifiers of tokens or without: nothing but what
 -- was noted, by its status
 pub record IsExchangeOf (identifiers : Bool) (noted : Noted) (e : Exchange) : Type 0 where
-  pub asks : e.asks.now ≡ asks_word noted.asks
+  pub asks : e.asks.now ≡ call_word noted.asks
   pub name : e.name.items ≡ noted.name.now
   pub verdict : e.verdict.now ≡ verdict_word noted.asks noted.status
   pub reason : e.reason ≡ logged_reason noted.reason noted.status

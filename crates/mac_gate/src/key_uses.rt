@@ -10,6 +10,7 @@ ghost use Rattle.mac_gate.specs.KeyUses.{use_line, use_lines, use_metric, use_wo
 ghost use Rattle.mac_gate.specs.KeyUses.{uses_text};
 
 use mac_decide::{KeyUse, NameCounts, Signer};
+use mac_wire::RequestKind;
 use std::alloc::{AllocError, Global};
 
 /// Appends how keys are used, a line for each use of a name that there was.
@@ -242,8 +243,8 @@ fn asked_word(used: KeyUse) -> &'static str
     ensures { result.now ≡ asked_word used }
 {
     match used {
-        KeyUse::Minted | KeyUse::NotMinted => "mint",
-        KeyUse::Granted(_) | KeyUse::Unsatisfied(_) | KeyUse::Refused => "verify",
+        KeyUse::Minted | KeyUse::NotMinted => RequestKind::Mint.word(),
+        KeyUse::Granted(_) | KeyUse::Unsatisfied(_) | KeyUse::Refused => RequestKind::Verify.word(),
     }
 }
 

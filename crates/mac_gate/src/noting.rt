@@ -1,35 +1,36 @@
 //! What a request over HTTP is counted and logged as, by its status and by why it wasn't done.
 
 ghost use Rattle.std.specs.Prelude.{◌≡◌, IfOk, option_copied, option_map};
-ghost use Rattle.mac_gate.specs.Noting.{IsExchangeOf, asks_word, counted_as, is_well};
+ghost use Rattle.mac_gate.specs.Noting.{IsExchangeOf, counted_as, is_well, told_of};
 ghost use Rattle.mac_gate.specs.Noting.{identifier_of, logged_reason, told_identifier, told_of_call};
 ghost use Rattle.mac_gate.specs.Noting.{told_of_verify, verdict_word, well_word};
 
 use http::StatusCode;
-use mac_count::{AnsweredRequest, Asked, Told};
+use mac_calls::Call;
+use mac_count::{AnsweredRequest, Told};
 use mac_host::{Exchange, LoggedReason, copy_identifier_of, copy_told_id, copy_told_identifier};
-use mac_http::{Asks, Noted, Reason};
+use mac_http::{Noted, Reason};
+use mac_wire::RequestKind;
 use std::alloc::{AllocError, Global};
 
-/// What a request is counted as, if it is counted: what needs no key isn't.
+/// What a request is counted as, if it is counted: what no frame asks isn't.
 pub fn request_of(noted: &Noted<'_>) -> Option<AnsweredRequest>
     ensures { result ≡ counted_as noted.now.asks noted.now.reason noted.now.status }
 {
-    let (asks, reason, status) = (noted.asks, noted.reason, noted.status);
-    match asks {
-        Asks::Verify => Some(AnsweredRequest {
-            asked: Asked::Verify,
-            told: told_of_verify(reason, status),
-        }),
-        Asks::Mint => Some(AnsweredRequest {
-            asked: Asked::Mint,
-            told: told_of_call(reason, status),
-        }),
-        Asks::Attenuate => Some(AnsweredRequest {
-            asked: Asked::Attenuate,
-            told: told_of_call(reason, status),
-        }),
-        Asks::Inspect | Asks::Check => None,
+    let kind = noted.asks.kind()?;
+    Some(AnsweredRequest {
+        asked: Some(kind),
+        told: told_of(kind, noted.reason, noted.status),
+    })
+}
+
+/// What a request of this kind was told.
+fn told_of(kind: RequestKind, reason: Option<Reason>, status: StatusCode) -> Told
+    ensures { result ≡ told_of kind reason status }
+{
+    match kind {
+        RequestKind::Verify => told_of_verify(reason, status),
+        RequestKind::Mint | RequestKind::Attenuate => told_of_call(reason, status),
     }
 }
 
@@ -69,7 +70,7 @@ pub fn exchange_of(
     let minted = copy_minted(alloc, noted.minted)?;
     let id = copy_told_id(alloc, noted.id)?;
     Ok(Exchange {
-        asks: asks_word(noted.asks),
+        asks: noted.asks.word(),
         name,
         verdict: verdict_word(noted.asks, noted.status),
         reason: logged_reason(noted.reason, noted.status),
@@ -90,40 +91,27 @@ fn copy_minted(alloc: Global, minted: Option<&[u8]>) -> Result<Option<Vec<u8>>, 
     }
 }
 
-/// The word for what a request asks for.
-fn asks_word(asks: Asks) -> &'static str
-    ensures { result.now ≡ asks_word asks }
-{
-    match asks {
-        Asks::Verify => "verify",
-        Asks::Mint => "mint",
-        Asks::Attenuate => "attenuate",
-        Asks::Inspect => "inspect",
-        Asks::Check => "check",
-    }
-}
-
 /// The word for what a request was answered with this status.
-fn verdict_word(asks: Asks, status: StatusCode) -> &'static str
+fn verdict_word(asks: Call, status: StatusCode) -> &'static str
     ensures { result.now ≡ verdict_word asks status }
 {
     if is_well(status) {
         return well_word(asks);
     }
     match asks {
-        Asks::Verify if status == StatusCode::FORBIDDEN => "unsatisfied",
+        Call::Verify if status == StatusCode::FORBIDDEN => "unsatisfied",
         _ => "refused",
     }
 }
 
 /// The word for what a request was answered that was done.
-fn well_word(asks: Asks) -> &'static str
+fn well_word(asks: Call) -> &'static str
     ensures { result.now ≡ well_word asks }
 {
     match asks {
-        Asks::Verify => "granted",
-        Asks::Mint | Asks::Attenuate => "token",
-        Asks::Inspect | Asks::Check => "told",
+        Call::Verify => "granted",
+        Call::Mint | Call::Attenuate => "token",
+        Call::Inspect | Call::Check => "told",
     }
 }
 

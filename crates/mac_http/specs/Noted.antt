@@ -15,8 +15,6 @@ use Rattle.mac_keys.specs.declared.keys.Keys.{Keys}
 use Rattle.mac_token.specs.RawToken.{TokenParts}
 use Rattle.mac_token.specs.Read.{read_of}
 use Rattle.mac_http.specs.declared.authorization.Scheme.{Scheme}
-use Rattle.mac_http.specs.declared.noted.Asks.{Asks}
-use Rattle.mac_http.specs.declared.noted.Asks.TheVariants as asks
 use Rattle.mac_http.specs.declared.noted.Noted.{Noted}
 use Rattle.mac_http.specs.declared.reason.Judged.{Judged}
 use Rattle.mac_http.specs.declared.rules.Rules.{Rules}
@@ -24,14 +22,6 @@ use Rattle.mac_http.specs.Authorization.{credentials_in, only}
 use Rattle.mac_http.specs.Found.{terms_of}
 use Rattle.mac_http.specs.Reason.{reason_of_call}
 use Rattle.mac_http.specs.Target.{target_in}
-
--- what a call asks for
-abbrev pub asks_of : Call → Asks
-asks_of call.Mint = asks.Mint
-asks_of call.Attenuate = asks.Attenuate
-asks_of call.Inspect = asks.Inspect
-asks_of call.Check = asks.Check
-asks_of call.Verify = asks.Verify
 
 -- the name of a target, or none
 abbrev pub named : Option (List ℕ × List ℕ) → List ℕ
@@ -68,7 +58,7 @@ pub record IsSignedBy (table : Table) (rules : Rules) (moment : Option ℕ) (hea
 -- what is noted of a call, of which this came, where the response tells that
 pub record IsNoteOfCall (asked : Call × List ℕ) (outcome : Option CallOutcome) (head : Parts)
     (answered : ℕ) (noted : Noted) : Type 0 where
-  pub asks : noted.asks ≡ asks_of asked.0
+  pub asks : noted.asks ≡ asked.0
   pub name : noted.name.now ≡ asked.1
   pub status : noted.status ≡ answered
   pub minted : option_copied noted.minted ≡ option_and_then minted_identifier outcome
@@ -79,7 +69,7 @@ pub record IsNoteOfCall (asked : Call × List ℕ) (outcome : Option CallOutcome
 -- what is noted of any other path, of which this came
 pub record IsNoteOfPath (judged : Judged) (head : Parts) (answered : ℕ) (noted : Noted)
     : Type 0 where
-  pub asks : noted.asks ≡ asks.Verify
+  pub asks : noted.asks ≡ call.Verify
   pub name : noted.name.now ≡ name_in (uri_path head.uri)
   pub status : noted.status ≡ answered
   pub minted : noted.minted ≡ None

@@ -34,7 +34,7 @@ pub use calling::{PathCall, call_in};
 pub use face::Face;
 pub use finding::{Finding, find};
 pub use footing::Footing;
-pub use noted::{Asks, Noted};
+pub use noted::Noted;
 pub use page::{Monitor, Page, PageTold};
 pub use path::{PATH_MAX, SEGMENTS_MAX};
 pub use reason::{Judged, Reason};

@@ -17,26 +17,11 @@ use mac_calls::{Call, CallOutcome};
 /// The name of the field by which gateways tell their requests apart.
 const ID: &str = "x-request-id";
 
-/// What a request asks for that names no page.
-#[derive(Clone, Copy, Debug, PartialEq, Eq)]
-pub enum Asks {
-    /// Whether a token is granted. What asks for nothing that is served counts as that.
-    Verify,
-    /// A new token.
-    Mint,
-    /// A token with further caveats.
-    Attenuate,
-    /// What a token says.
-    Inspect,
-    /// Which caveats of a token hold.
-    Check,
-}
-
 /// A request that names no page.
 #[derive(Clone, Copy)]
 pub struct Noted<'a> {
-    /// What it asks for.
-    pub asks: Asks,
+    /// What it asks for. What asks for nothing that is served counts as a verify.
+    pub asks: Call,
     /// The name of the key that it names, empty where it names none.
     pub name: &'a [u8],
     /// The identifier of the token that was minted for it.
@@ -61,20 +46,13 @@ pub(crate) fn note_of_call<'a>(
     ensures { IsNoteOfCall (asked.entry.call, asked.entry.name.now) (option_copied outcome.entry)
         (head_of request.now) response.now.status result }
 {
-    let asks = match asked.call {
-        Call::Mint => Asks::Mint,
-        Call::Attenuate => Asks::Attenuate,
-        Call::Inspect => Asks::Inspect,
-        Call::Check => Asks::Check,
-        Call::Verify => Asks::Verify,
-    };
     let (minted, reason) = match outcome {
         Some(outcome) => (outcome.identifier(), reason_of_call(outcome)),
         None => (None, None),
     };
     let status = response.status;
     Noted {
-        asks,
+        asks: asked.call,
         name: asked.name,
         minted,
         reason,
@@ -97,7 +75,7 @@ pub(crate) fn note_of_path<'a>(
         None => &[],
     };
     Noted {
-        asks: Asks::Verify,
+        asks: Call::Verify,
         name,
         minted: None,
         reason: judged.reason,

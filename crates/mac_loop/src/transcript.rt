@@ -12,10 +12,11 @@ ghost use Rattle.mac_loop.specs.Minted.{identifier_asked, minted_by};
 ghost use Rattle.mac_loop.specs.Reason.{reason_of, reason_told};
 ghost use Rattle.mac_loop.specs.Verified.{identifier_verified, token_verified, verified_by, verified_in};
 
+use mac_count::asked_word;
 use mac_host::{Exchange, LoggedReason, copy_identifier_of, copy_told_identifier, copy_told_name};
 use mac_wire::{
-    Arrival, Cut, FeedFault, FrameReader, Refusal, ReplyKind, Request, RequestKind, Version,
-    key_name, next_frame, parse_request, reply_kind, request_kind,
+    Arrival, Cut, FeedFault, FrameReader, Refusal, ReplyKind, Request, Version, key_name,
+    next_frame, parse_request, reply_kind, request_kind,
 };
 use std::alloc::{AllocError, Global};
 use std::cell::RefCell;
@@ -204,12 +205,6 @@ fn asked_by(alloc: Global, tells_identifiers: bool, arrival: &Arrival) -> Result
         Arrival::Payload(payload) => payload.as_slice(),
         Arrival::Oversize => &[],
     };
-    let what = match request_kind(payload) {
-        Some(RequestKind::Mint) => "mint",
-        Some(RequestKind::Attenuate) => "attenuate",
-        Some(RequestKind::Verify) => "verify",
-        None => "nothing",
-    };
     let name = match parse_request(payload) {
         Some(_) => key_name(payload).unwrap_or(&[]),
         None => &[],
@@ -219,7 +214,7 @@ fn asked_by(alloc: Global, tells_identifiers: bool, arrival: &Arrival) -> Result
         None => None,
     };
     Ok(Asked {
-        what,
+        what: asked_word(request_kind(payload)),
         name: copy_told_name(alloc, name)?,
         identifier,
         verified: verified_in(alloc, tells_identifiers, arrival)?,

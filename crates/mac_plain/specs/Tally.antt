@@ -1,7 +1,5 @@
 -- Which of the daemon's numbers an answered request is counted in (this project's own).
 use Rattle.std.specs.Prelude.{ℕ, List, [], ◌∷◌, Option, Some, None}
-use Rattle.mac_count.specs.declared.number.Asked.{Asked}
-use Rattle.mac_count.specs.declared.number.Asked.TheVariants as asked
 use Rattle.mac_count.specs.declared.number.AnsweredRequest.{AnsweredRequest}
 use Rattle.mac_count.specs.declared.number.Told.{Told}
 use Rattle.mac_count.specs.declared.number.Told.TheVariants as told
@@ -11,21 +9,13 @@ use Rattle.mac_wire.specs.declared.arrival.Arrival.{Arrival}
 use Rattle.mac_wire.specs.declared.arrival.Arrival.TheVariants as arrival
 use Rattle.mac_wire.specs.Reading.{request_kind_of}
 use Rattle.mac_wire.specs.declared.request.RequestKind.{RequestKind}
-use Rattle.mac_wire.specs.declared.request.RequestKind.TheVariants as kind
 use Rattle.mac_wire.specs.declared.reply.Reply.{Reply}
 use Rattle.mac_wire.specs.declared.reply.Reply.TheVariants as reply
 
--- what a request of this kind is counted as, or a payload that begins as none
-abbrev pub asked_as : Option RequestKind → Asked
-asked_as (Some kind.Mint) = asked.Mint
-asked_as (Some kind.Attenuate) = asked.Attenuate
-asked_as (Some kind.Verify) = asked.Verify
-asked_as None = asked.Nothing
-
--- what an arrival asks for
-abbrev pub asked_by : Arrival → Asked
-asked_by (arrival.Payload payload) = asked_as (request_kind_of payload)
-asked_by arrival.Oversize = asked.Nothing
+-- what an arrival asks for by its first byte, if that is the number of a request
+abbrev pub asked_by : Arrival → Option RequestKind
+asked_by (arrival.Payload payload) = request_kind_of payload
+asked_by arrival.Oversize = None
 
 -- what a reply tells: of a refusal, its reason
 abbrev pub told_by : Reply → Told

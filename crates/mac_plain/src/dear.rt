@@ -67,7 +67,8 @@ fn compared(payload: &[u8]) -> usize
     match (request_kind(payload), key_name(payload)) {
         (Some(RequestKind::Verify), Some(name)) => {
             let token = token_length(payload, name);
-            let moment = if byte_of(payload, 0) == 3 { 8 } else { 0 };
+            let tells_moment = byte_of(payload, 0) == RequestKind::Verify.code() as usize;
+            let moment = if tells_moment { 8 } else { 0 };
             byte_of(payload, name.len() + 4 + token + moment) * token
         }
         _ => 0,

@@ -3,10 +3,10 @@
 ghost use Rattle.std.specs.Prelude.{◌≡◌, map};
 ghost use Rattle.mac_count.specs.RequestCounts.{no_counts, with_all_counted, with_counted};
 ghost use Rattle.mac_decide.specs.Viewed.{arrival_of, viewed};
-ghost use Rattle.mac_plain.specs.Tally.{asked_by, asked_as, counts_of, request_of, requests_of};
+ghost use Rattle.mac_plain.specs.Tally.{asked_by, counts_of, request_of, requests_of};
 ghost use Rattle.mac_plain.specs.Tally.{told_by};
 
-use mac_count::{AnsweredRequest, Asked, REQUESTS, RequestCounts, Told};
+use mac_count::{AnsweredRequest, REQUESTS, RequestCounts, Told};
 use mac_decide::{ArrivalView, JobView};
 use mac_wire::{Reply, RequestKind, request_kind};
 
@@ -63,25 +63,13 @@ pub(crate) fn request_of(job: &JobView<'_>, reply: &Reply) -> AnsweredRequest
     }
 }
 
-/// What an arrival asks for.
-fn asked_by(arrival: &ArrivalView<'_>) -> Asked
+/// What an arrival asks for by its first byte, if that is the number of a request.
+fn asked_by(arrival: &ArrivalView<'_>) -> Option<RequestKind>
     ensures { result ≡ asked_by (arrival_of arrival.now) }
 {
     match arrival {
-        ArrivalView::Payload(payload) => asked_as(request_kind(payload)),
-        ArrivalView::Oversize => Asked::Nothing,
-    }
-}
-
-/// What a request of this kind is counted as, or a payload that begins as none.
-fn asked_as(kind: Option<RequestKind>) -> Asked
-    ensures { result ≡ asked_as kind }
-{
-    match kind {
-        Some(RequestKind::Mint) => Asked::Mint,
-        Some(RequestKind::Attenuate) => Asked::Attenuate,
-        Some(RequestKind::Verify) => Asked::Verify,
-        None => Asked::Nothing,
+        ArrivalView::Payload(payload) => request_kind(payload),
+        ArrivalView::Oversize => None,
     }
 }
 

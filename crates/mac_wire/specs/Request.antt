@@ -1,5 +1,5 @@
 -- Requests, and the one payload that each is asked by. The format is this project's own.
-use Rattle.std.specs.Prelude.{◌≡◌, ℕ, ◌<◌, ◌≤◌, ◌^◌, List, ◌∷◌, ◌++◌, length, slice_index, All, Option, Some, None}
+use Rattle.std.specs.Prelude.{◌≡◌, ℕ, ◌<◌, ◌≤◌, ◌^◌, List, ◌∷◌, ◌++◌, length, slice_index, All, Option, Some, None, codes}
 use Rattle.std.specs.Int.{w16, w64, to_be_bytes}
 use Rattle.std.specs.List.{flat_map}
 use Rattle.std.specs.Str.{IsUtf8}
@@ -41,6 +41,18 @@ kind_of (mint form key location identifier caveats) = request_kind.Mint
 kind_of (attenuate form token caveats) = request_kind.Attenuate
 kind_of (verify key token moment facts) = request_kind.Verify
 kind_of (verify_now grant key token facts) = request_kind.Verify
+
+-- the number of such a request; of a verify, that of one which tells its moment
+abbrev pub request_code : RequestKind → ℕ
+request_code request_kind.Mint = 1
+request_code request_kind.Attenuate = 2
+request_code request_kind.Verify = 3
+
+-- the word for what a request asks for
+abbrev pub request_word : RequestKind → List ℕ
+request_word request_kind.Mint = codes "mint"
+request_word request_kind.Attenuate = codes "attenuate"
+request_word request_kind.Verify = codes "verify"
 
 -- the byte of a form
 abbrev pub form_code : TokenForm → ℕ

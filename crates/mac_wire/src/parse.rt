@@ -7,18 +7,9 @@ ghost use Rattle.mac_wire.specs.Reading.{key_name_of, name_at, request_kind_of, 
 
 use crate::field_list::FieldList;
 use crate::fields::{byte, form, long_field, number_64, short_field, text_field};
-use crate::request::{FACTS_MAX, Grant, Request, RequestKind};
-
-/// The first byte of each kind of request.
-const MINT: u8 = 1;
-
-const ATTENUATE: u8 = 2;
-
-const VERIFY: u8 = 3;
-
-const VERIFY_NOW: u8 = 4;
-
-const VERIFY_OWNER: u8 = 5;
+use crate::request::{
+    ATTENUATE, FACTS_MAX, Grant, MINT, Request, RequestKind, VERIFY, VERIFY_NOW, VERIFY_OWNER,
+};
 
 /// The key name in a payload's front: after a mint's number and any byte for a form, or after the
 /// number of one of the three verifies. There is none where the name isn't whole. What follows the

@@ -1,12 +1,23 @@
 //! What a client asks.
 
 ghost use Rattle.std.specs.Prelude.{◌≡◌};
-ghost use Rattle.mac_wire.specs.Request.{form_code, grant_kind};
+ghost use Rattle.mac_wire.specs.Request.{form_code, request_code, request_word};
 
 use crate::field_list::FieldList;
 
 /// The greatest number of facts in a verify request.
 pub const FACTS_MAX: u8 = 128;
+
+/// The first byte of each kind of request.
+pub(crate) const MINT: u8 = 1;
+
+pub(crate) const ATTENUATE: u8 = 2;
+
+pub(crate) const VERIFY: u8 = 3;
+
+pub(crate) const VERIFY_NOW: u8 = 4;
+
+pub(crate) const VERIFY_OWNER: u8 = 5;
 
 /// The form that a token is asked for in.
 #[derive(Clone, Copy, PartialEq, Eq)]
@@ -44,18 +55,6 @@ pub enum Grant {
     Owner,
 }
 
-impl Grant {
-    /// The number of the kind of request that asks it.
-    pub fn kind(self) -> u8
-        ensures { result ≡ grant_kind self }
-    {
-        match self {
-            Grant::Bare => 4,
-            Grant::Owner => 5,
-        }
-    }
-}
-
 /// What a request asks for.
 #[derive(Clone, Copy, Debug, PartialEq, Eq)]
 pub enum RequestKind {
@@ -65,6 +64,30 @@ pub enum RequestKind {
     Attenuate,
     /// Whether a token is granted, whatever moment it is asked for.
     Verify,
+}
+
+impl RequestKind {
+    /// Its number on the wire; of a verify, that of one which tells its moment.
+    pub fn code(self) -> u8
+        ensures { result ≡ request_code self }
+    {
+        match self {
+            RequestKind::Mint => MINT,
+            RequestKind::Attenuate => ATTENUATE,
+            RequestKind::Verify => VERIFY,
+        }
+    }
+
+    /// The word for it, wherever people are told of requests.
+    pub fn word(self) -> &'static str
+        ensures { result.now ≡ request_word self }
+    {
+        match self {
+            RequestKind::Mint => "mint",
+            RequestKind::Attenuate => "attenuate",
+            RequestKind::Verify => "verify",
+        }
+    }
 }
 
 /// A request, lent from the payload that asks it.

@@ -1,7 +1,7 @@
 //! Cases of `mac_wire`: requests.
 
 use crate::case::Case;
-use mac_wire::{FieldList, Refusal, Request, key_name, parse_request};
+use mac_wire::{FieldList, Grant, Refusal, Request, key_name, parse_request};
 
 /// Tells what a case comes to, if it is one of these kinds.
 pub(crate) fn tells(case: &mut Case<'_>, kind: &str) -> bool {
@@ -71,8 +71,10 @@ fn say_request(case: &mut Case<'_>, request: Request<'_>) {
             token,
             facts,
         } => {
-            case.say("verify now ");
-            case.say_number(grant.kind() as u64);
+            case.say(match grant {
+                Grant::Bare => "verify now 4",
+                Grant::Owner => "verify now 5",
+            });
             say_field(case, key);
             say_field(case, token);
             say_lists(case, facts);
