@@ -47,10 +47,10 @@ pub(crate) fn judged(
     let text = token_in(object)?;
     let facts = facts_in(alloc, object)?;
     let moment = moment_in(object)?;
-    let Some(facts) = counted_facts(alloc, &facts)? else {
+    let Some(counted) = counted_facts(alloc, &facts)? else {
         return Err(BodyFault::ManyFacts.into());
     };
-    let facts = facts.lend();
+    let facts = counted.lend();
     let context = Context { moment, facts };
     match verifier {
         Some(verifier) => {

@@ -58,26 +58,27 @@ pub(crate) fn minted(
 }
 
 /// The text of the token of these parts under the first of the keys, in a form.
-fn new_text(
+fn new_text<'a>(
     alloc: Global,
     keys: &Keys,
     form: CallForm,
-    location: &str,
-    identifier: &[u8],
+    location: &'a str,
+    identifier: &'a [u8],
     caveats: &[Vec<u8>],
 ) -> Result<Vec<u8>, CallFault>
     ensures { Gives (λ text. text.items) result
         (new_text keys.now form location.now identifier.now (byte_lists caveats.now)) }
 {
-    let Some(caveats) = counted_facts(alloc, caveats)? else {
+    let Some(counted) = counted_facts(alloc, caveats)? else {
         return Err(Refusal::Limit.into());
     };
+    let caveats = counted.lend();
     let request = Request::Mint {
         form: form.wire(),
         key: b"",
         location,
         identifier,
-        caveats: caveats.lend(),
+        caveats,
     };
     let reply = ask(alloc, Some(keys), request)?;
     made_text(alloc, form, reply)
@@ -127,13 +128,14 @@ fn narrowed(
     ensures { Gives (λ text. text.items) result
         (narrowed form token.now (byte_lists caveats.now)) }
 {
-    let Some(caveats) = counted_facts(alloc, caveats)? else {
+    let Some(counted) = counted_facts(alloc, caveats)? else {
         return Err(Refusal::Limit.into());
     };
+    let caveats = counted.lend();
     let request = Request::Attenuate {
         form: form.wire(),
         token,
-        caveats: caveats.lend(),
+        caveats,
     };
     let reply = ask(alloc, None, request)?;
     made_text(alloc, form, reply)

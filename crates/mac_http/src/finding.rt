@@ -62,17 +62,18 @@ pub fn find(
         return Ok(Finding::UnsafePath);
     }
     let facts = facts_of(alloc, sources, request, target.behind)?;
-    let Some(facts) = counted_facts(alloc, &facts)? else {
+    let Some(counted) = counted_facts(alloc, &facts)? else {
         return Ok(Finding::ManyFacts);
     };
     if footing.moment.is_none() {
         return Ok(Finding::NoMoment);
     }
+    let facts = counted.lend();
     let request = Request::VerifyNow {
         grant: Grant::Owner,
         key: target.name,
         token: credentials.token,
-        facts: facts.lend(),
+        facts,
     };
     let reply = answer_request(footing.seen, alloc, Asking::under(footing.terms(), request))?;
     Ok(found_by(credentials.scheme, reply))

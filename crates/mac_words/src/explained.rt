@@ -29,8 +29,8 @@ pub fn explain(
 ) -> Result<Vec<u8>, FieldFault>
     ensures { Explains token.now moment (texts_of facts.now) result }
 {
-    let facts = counted_facts(alloc, facts)?;
-    let facts = facts.lend();
+    let counted = counted_facts(alloc, facts)?;
+    let facts = counted.lend();
     Ok(lacks_of(alloc, token, &Context { moment, facts })?)
 }
 
