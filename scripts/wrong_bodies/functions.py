@@ -73,11 +73,13 @@ def scope_name(head):
     """What stands in a path for an impl (its type, its trait, what that is given) or a module."""
     if not head.startswith("impl"):
         return re.findall(r"\w+", head)[1]
-    rest = re.sub(r"^impl(<[^<>]*(<[^<>]*>[^<>]*)*>)? ", "", head)
+    own, rest = re.match(r"impl((?:<[^<>]*(?:<[^<>]*>[^<>]*)*>)?) (.*)", head).groups()
     trait, _, made = rest.rpartition(" for ")
     trait, _, given = trait.partition("<")
     words = re.findall(r"\w+", re.sub(r"<.*>", "", given.removesuffix(">")))
     words = [f"tuple{len(words)}"] * given.startswith("(") + words
     made = re.sub(r"^&('\w+ )?", "Ref", made)
-    names = [re.match(r"\w+", made)[0], trait.split("::")[-1], *words]
+    # what a type is given stands behind it too, unless it is a parameter of the impl
+    held = [it for it in re.findall(r"'?\w+", made) if it not in re.findall(r"'?\w+", own) and it[0] != "'"]
+    names = [*held, trait.split("::")[-1], *words]
     return "".join(it[:1].upper() + it[1:] for it in names)

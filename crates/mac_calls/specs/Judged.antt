@@ -65,26 +65,18 @@ abbrev pub verify_reply : Verifier → List ℕ → Context → Reply
 verify_reply v text x =
     request_reply (verify v.name text x.moment x.facts) (verify_basis v text)
 
--- which caveats of the token that a text spells hold in a context
-abbrev pub checked : List ℕ → Context → Step (List ℕ)
-checked text x = received text >>= λ t. Ok (compact_text (holds_object (holding t.caveats x)))
-
 -- what is told of a text in a context: the reply to a verify under a name's keys, or which caveats
--- hold
+-- of the token that it spells hold
 abbrev pub judged_at : Option Verifier → List ℕ → Context → Step (List ℕ)
-judged_at None text x = checked text x
+judged_at None text x =
+    received text >>= λ t. Ok (compact_text (holds_object (holding t.caveats x)))
 judged_at (Some v) text x = reply_json (verify_reply v text x)
 
--- the same with these facts, if they are few
-abbrev pub judged_few : Option Verifier → List ℕ → List (List ℕ) → ℕ → Step (List ℕ)
-judged_few v text facts moment =
-    if are_few facts then judged_at v text (record { moment = moment; facts = facts })
-    else Err (Body ManyFacts)
-
--- the same of an object's token, with the object's facts at its moment
+-- the same of an object's token, with the object's facts, if they are few, at its moment
 abbrev pub judged : Option Verifier → Data → Step (List ℕ)
 judged v d = do
   text ← token_in d
   facts ← facts_in d
   moment ← moment_in d
-  judged_few v text facts moment
+  if are_few facts then judged_at v text (record { moment = moment; facts = facts })
+      else Err (Body ManyFacts)

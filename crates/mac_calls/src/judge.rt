@@ -1,19 +1,16 @@
 //! Tokens judged in a context.
 
-ghost use Rattle.std.specs.Prelude.{◌≡◌, map, true, Bool, IfOk, List, ℕ};
+ghost use Rattle.std.specs.Prelude.{◌≡◌, map, Bool, IfOk, List};
 ghost use Rattle.std.specs.Prelude.{option_map};
 ghost use Rattle.serde_json.specs.Data.{boolean};
 ghost use Rattle.serde_json.specs.View.{view};
 ghost use Rattle.serde_json.specs.Written.{compact_text};
 ghost use Rattle.mac_decide.specs.Reading.{is_satisfied};
 ghost use Rattle.mac_token.specs.RawToken.{byte_lists};
-ghost use Rattle.mac_wire.specs.Request.{counted_fields};
 ghost use Rattle.mac_calls.specs.Asking.{lent_verifier};
-ghost use Rattle.mac_calls.specs.Counted.{are_few};
 ghost use Rattle.mac_calls.specs.Gives.{Gives};
-ghost use Rattle.mac_calls.specs.Judged.{checked, holding, holds_object, judged, judged_at};
-ghost use Rattle.mac_calls.specs.Judged.{judged_few, refused_json, reply_json, unsatisfied_json};
-ghost use Rattle.mac_calls.specs.Judged.{verify_reply};
+ghost use Rattle.mac_calls.specs.Judged.{holding, holds_object, judged, refused_json, reply_json};
+ghost use Rattle.mac_calls.specs.Judged.{unsatisfied_json};
 
 use crate::asking::ask_verify;
 use crate::counted::counted_facts;
@@ -23,7 +20,7 @@ use crate::received::receive;
 use crate::verifier::Verifier;
 use mac_decide::{Context, satisfied};
 use mac_token::Token;
-use mac_wire::{FieldList, Refusal, Reply};
+use mac_wire::{Refusal, Reply};
 use serde_json::{Map, Value, put};
 use std::alloc::{AllocError, Global};
 
@@ -50,68 +47,21 @@ pub(crate) fn judged(
     let text = token_in(object)?;
     let facts = facts_in(alloc, object)?;
     let moment = moment_in(object)?;
-    judged_few(alloc, verifier, text.as_bytes(), &facts, moment)
-}
-
-/// The same with these facts, if they are few.
-fn judged_few(
-    alloc: Global,
-    verifier: Option<Verifier<'_>>,
-    text: &[u8],
-    facts: &[Vec<u8>],
-    moment: u64,
-) -> Result<Vec<u8>, CallFault>
-    ensures { Gives (λ text. text.items) result
-        (judged_few (option_map lent_verifier verifier.entry)
-        text.now (byte_lists facts.now) moment) }
-{
-    match counted_facts(alloc, facts)? {
-        Some(counted) => judged_at(alloc, verifier, text, &counted, moment),
-        None => Err(BodyFault::ManyFacts.into()),
-    }
-}
-
-/// The same with counted facts.
-fn judged_at(
-    alloc: Global,
-    verifier: Option<Verifier<'_>>,
-    text: &[u8],
-    counted: &[u8],
-    moment: u64,
-) -> Result<Vec<u8>, CallFault>
-    ensures { (facts : List (List ℕ)) → counted.now ≡ counted_fields facts → are_few facts ≡ true
-        → Gives (λ text. text.items) result (judged_at (option_map lent_verifier verifier.entry)
-        text.now (record { moment = moment; facts = facts })) }
-{
-    let Some(facts) = FieldList::read(counted) else {
+    let Some(counted) = counted_facts(alloc, &facts)? else {
         return Err(BodyFault::ManyFacts.into());
     };
+    let facts = counted.lend();
+    let context = Context { moment, facts };
     match verifier {
-        Some(verifier) => verified(alloc, verifier, text, Context { moment, facts }),
-        None => checked(alloc, text, &Context { moment, facts }),
+        Some(verifier) => {
+            let reply = ask_verify(alloc, verifier, text.as_bytes(), context)?;
+            reply_json(alloc, &reply)
+        }
+        None => {
+            let received = receive(alloc, text.as_bytes())?;
+            Ok(holds_json(alloc, &received.token, &context)?)
+        }
     }
-}
-
-/// What a verify of a text is answered in a context.
-fn verified(
-    alloc: Global,
-    verifier: Verifier<'_>,
-    token: &[u8],
-    context: Context<'_>,
-) -> Result<Vec<u8>, CallFault>
-    ensures { Gives (λ text. text.items) result
-        (reply_json (verify_reply (lent_verifier verifier.entry) token.now context.entry)) }
-{
-    let reply = ask_verify(alloc, verifier, token, context)?;
-    reply_json(alloc, &reply)
-}
-
-/// Which caveats of the token that a text spells are satisfied in a context.
-fn checked(alloc: Global, text: &[u8], context: &Context<'_>) -> Result<Vec<u8>, CallFault>
-    ensures { Gives (λ text. text.items) result (checked text.now context.now) }
-{
-    let received = receive(alloc, text)?;
-    Ok(holds_json(alloc, &received.token, context)?)
 }
 
 /// Which caveats of a token are satisfied, as JSON.

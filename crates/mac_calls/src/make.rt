@@ -1,10 +1,8 @@
 //! Tokens that are made, and their texts.
 
-ghost use Rattle.std.specs.Prelude.{◌≡◌, List, ℕ, true};
+ghost use Rattle.std.specs.Prelude.{◌≡◌};
 ghost use Rattle.serde_json.specs.View.{view};
 ghost use Rattle.mac_token.specs.RawToken.{byte_lists};
-ghost use Rattle.mac_wire.specs.Request.{counted_fields};
-ghost use Rattle.mac_calls.specs.Counted.{are_few};
 ghost use Rattle.mac_calls.specs.Gives.{Gives};
 ghost use Rattle.mac_calls.specs.Made.{as_text, attenuate_reply, attenuated, made_text, mint_reply};
 ghost use Rattle.mac_calls.specs.Made.{minted, narrowed, new_text, some_caveat};
@@ -19,7 +17,7 @@ use crate::warned::list_warnings;
 use base64::engine::general_purpose::URL_SAFE_NO_PAD;
 use mac_keys::Keys;
 use mac_token::TOKEN_MAX;
-use mac_wire::{FieldList, Refusal, Reply, Request};
+use mac_wire::{Refusal, Reply, Request};
 use serde_json::Value;
 use std::alloc::Global;
 
@@ -60,39 +58,21 @@ pub(crate) fn minted(
 }
 
 /// The text of the token of these parts under the first of the keys, in a form.
-fn new_text(
+fn new_text<'a>(
     alloc: Global,
     keys: &Keys,
     form: CallForm,
-    location: &str,
-    identifier: &[u8],
+    location: &'a str,
+    identifier: &'a [u8],
     caveats: &[Vec<u8>],
 ) -> Result<Vec<u8>, CallFault>
     ensures { Gives (λ text. text.items) result
         (new_text keys.now form location.now identifier.now (byte_lists caveats.now)) }
 {
-    match counted_facts(alloc, caveats)? {
-        Some(counted) => new_counted(alloc, keys, form, location, identifier, &counted),
-        None => Err(Refusal::Limit.into()),
-    }
-}
-
-/// The same with counted caveats.
-fn new_counted(
-    alloc: Global,
-    keys: &Keys,
-    form: CallForm,
-    location: &str,
-    identifier: &[u8],
-    counted: &[u8],
-) -> Result<Vec<u8>, CallFault>
-    ensures { (caveats : List (List ℕ)) → counted.now ≡ counted_fields caveats
-        → are_few caveats ≡ true → Gives (λ text. text.items) result (made_text form
-        (mint_reply keys.now form location.now identifier.now caveats)) }
-{
-    let Some(caveats) = FieldList::read(counted) else {
+    let Some(counted) = counted_facts(alloc, caveats)? else {
         return Err(Refusal::Limit.into());
     };
+    let caveats = counted.lend();
     let request = Request::Mint {
         form: form.wire(),
         key: b"",
@@ -148,26 +128,10 @@ fn narrowed(
     ensures { Gives (λ text. text.items) result
         (narrowed form token.now (byte_lists caveats.now)) }
 {
-    match counted_facts(alloc, caveats)? {
-        Some(counted) => narrowed_counted(alloc, form, token, &counted),
-        None => Err(Refusal::Limit.into()),
-    }
-}
-
-/// The same with counted caveats.
-fn narrowed_counted(
-    alloc: Global,
-    form: CallForm,
-    token: &[u8],
-    counted: &[u8],
-) -> Result<Vec<u8>, CallFault>
-    ensures { (caveats : List (List ℕ)) → counted.now ≡ counted_fields caveats
-        → are_few caveats ≡ true → Gives (λ text. text.items) result
-        (made_text form (attenuate_reply form token.now caveats)) }
-{
-    let Some(caveats) = FieldList::read(counted) else {
+    let Some(counted) = counted_facts(alloc, caveats)? else {
         return Err(Refusal::Limit.into());
     };
+    let caveats = counted.lend();
     let request = Request::Attenuate {
         form: form.wire(),
         token,

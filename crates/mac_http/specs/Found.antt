@@ -40,18 +40,15 @@ found_at terms name credentials facts None = NoMoment
 found_at terms name credentials facts (Some moment) =
     found_by credentials.0 (answer_to terms (verify_now grant.Owner name credentials.1 facts))
 
--- the same, if the facts are few
-abbrev pub found_few : Terms → List ℕ → Scheme × List ℕ → List (List ℕ) → Finding
-found_few terms name credentials facts =
-    if are_few facts then found_at terms name credentials facts terms.moment else ManyFacts
-
 -- the same of a target, which is a name and what stands behind it, with the facts that a request
--- brings
+-- brings, if they are few
 abbrev pub found_with : Sources → Terms → Parts → List ℕ × List ℕ → Scheme × List ℕ → Finding
 found_with sources terms head target credentials =
     if tells_fragment sources head target.1 then Fragment
     else (if tells_unsafe sources head target.1 then UnsafePath
-    else found_few terms target.0 credentials (facts_of sources head target.1))
+    else (if are_few (facts_of sources head target.1)
+    then found_at terms target.0 credentials (facts_of sources head target.1) terms.moment
+    else ManyFacts))
 
 -- the same, if there is a token
 abbrev pub found_under : Sources → Terms → Parts → List ℕ × List ℕ → Option (Scheme × List ℕ)

@@ -1,14 +1,10 @@
 //! What is found of a request.
 
-ghost use Rattle.std.specs.Prelude.{◌≡◌, IfOk, List, ℕ, true};
+ghost use Rattle.std.specs.Prelude.{◌≡◌, IfOk};
 ghost use Rattle.http.specs.Request.{head_of};
-ghost use Rattle.mac_calls.specs.Counted.{are_few};
-ghost use Rattle.mac_token.specs.RawToken.{byte_lists};
-ghost use Rattle.mac_wire.specs.Request.{counted_fields};
-ghost use Rattle.mac_http.specs.Found.{found_at, found_by, found_few, found_of};
-ghost use Rattle.mac_http.specs.Found.{terms_of};
+ghost use Rattle.mac_http.specs.Found.{found_by, found_of};
 
-use crate::authorization::{Credentials, Scheme, credentials_in};
+use crate::authorization::{Scheme, credentials_in};
 use crate::facts::{facts_of, tells_fragment, tells_unsafe};
 use crate::footing::Footing;
 use crate::target::target_in;
@@ -16,7 +12,7 @@ use bytes::Bytes as Body;
 use http::Request as HttpRequest;
 use mac_calls::counted_facts;
 use mac_decide::{Asking, answer_request};
-use mac_wire::{Bytes, FieldList, Grant, Refusal, Reply, Request};
+use mac_wire::{Bytes, Grant, Refusal, Reply, Request};
 use std::alloc::{AllocError, Global};
 
 /// What is found of a request. The first that applies is told.
@@ -66,34 +62,16 @@ pub fn find(
         return Ok(Finding::UnsafePath);
     }
     let facts = facts_of(alloc, sources, request, target.behind)?;
-    match counted_facts(alloc, &facts)? {
-        Some(counted) => find_at(alloc, footing, target.name, credentials, &counted),
-        None => Ok(Finding::ManyFacts),
-    }
-}
-
-/// What is found of a token with counted facts.
-fn find_at(
-    alloc: Global,
-    footing: Footing<'_>,
-    name: &[u8],
-    credentials: Credentials<'_>,
-    counted: &[u8],
-) -> Result<Finding, AllocError>
-    ensures { (facts : List (List ℕ)) → counted.now ≡ counted_fields facts → are_few facts ≡ true
-        → IfOk result (λ f. f ≡ found_at
-        (terms_of footing.entry.keys.now footing.entry.rules footing.entry.moment) name.now
-        (credentials.entry.scheme, credentials.entry.token.now) facts footing.entry.moment) }
-{
-    let Some(facts) = FieldList::read(counted) else {
+    let Some(counted) = counted_facts(alloc, &facts)? else {
         return Ok(Finding::ManyFacts);
     };
     if footing.moment.is_none() {
         return Ok(Finding::NoMoment);
     }
+    let facts = counted.lend();
     let request = Request::VerifyNow {
         grant: Grant::Owner,
-        key: name,
+        key: target.name,
         token: credentials.token,
         facts,
     };

@@ -90,6 +90,12 @@ IsFieldList-spelled fields fit =
     let same = fields_again fields fit in
     record { counted = ap length same; fit = rw same fit; parts = ap (flat_map long_field) (sym same) }
 
+-- what was made of fields is their list
+pub made_of : (fields : List (List ℕ)) (count : ℕ) (bytes : List ℕ) → AreFields fields → count ≡ length fields → bytes ≡ flat_map long_field fields
+    → IsFieldList count bytes × (fields_of count bytes ≡ fields)
+made_of fields count bytes fit counted parts =
+    rw (counted, parts) (IsFieldList-spelled fields fit, fields_again fields fit)
+
 -- ---- a step over it
 
 pub is_empty : (bytes : List ℕ) → IsFieldList 0 bytes → fields_of 0 bytes ≡ []

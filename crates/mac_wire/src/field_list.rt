@@ -1,12 +1,15 @@
 //! The fields of a list, where they lie in a payload.
 
-ghost use Rattle.std.specs.Prelude.{◌≡◌, ◌<◌, ◌^◌, ℕ, List, length, Some, IfSome, nat_eq};
+ghost use Rattle.std.specs.Prelude.{◌≡◌, ◌<◌, ◌^◌, ℕ, List, length, map, Some, IfOk, IfSome, nat_eq};
 ghost use Rattle.std.specs.Cmp.{partial_equiv_from_equiv};
 ghost use Rattle.std.specs.Cmp.Lexicographic.{pointwise, lists_equiv, nat_list_eq_equiv};
 ghost use Rattle.mac_wire.specs.Request.{counted_fields, AreFields};
 ghost use Rattle.mac_wire.specs.Reading.{list_at, counted_list_at};
 
+use crate::NoMemory;
 use crate::fields::{byte, long_field};
+use crate::writing::{Field, append_fields};
+use std::alloc::Global;
 use std::marker::Model;
 
 /// A list of fields, each behind a length of two bytes, that is lent from a payload. It is read to
@@ -119,4 +122,45 @@ impl<'a> PartialEq for FieldList<'a> {
 
 impl<'a> Eq for FieldList<'a> {
     ghost laws = { lists_equiv nat_list_eq_equiv };
+}
+
+/// A list of fields that owns its bytes, in the form in which a payload has them.
+#[derive(Drop)]
+pub struct OwnedFields {
+    count: u8,
+    bytes: Vec<u8>,
+}
+
+impl Model for OwnedFields {
+    ghost use Rattle.std.specs.Prelude.{ℕ, List};
+
+    ghost Value = { List (List ℕ) };
+
+    ghost use Rattle.mac_wire.specs.FieldList.{fields_of, IsFieldList};
+
+    ghost view = { λ l. fields_of l.count l.bytes.items };
+
+    ghost invariant = { λ l. IsFieldList l.count l.bytes.items };
+}
+
+impl OwnedFields {
+    /// The list of these fields, whose bytes it copies.
+    pub fn new<T: Field>(alloc: Global, fields: &[T]) -> Result<OwnedFields, NoMemory>
+        requires count { length fields.now < 2 ^ 8 }
+        requires each { AreFields (map T.bytes fields.now) }
+        ensures { IfOk result (λ made. made ≡ map T.bytes fields.now) }
+    {
+        let mut bytes = Vec::new(alloc);
+        append_fields(&mut bytes, fields)?;
+        let count = fields.len() as u8;
+        Ok(OwnedFields { count, bytes })
+    }
+
+    /// The list, lent.
+    pub fn lend(&self) -> FieldList<'_>
+        ensures { result ≡ self.now }
+    {
+        let (count, bytes) = (self.count, self.bytes.as_slice());
+        FieldList { count, bytes }
+    }
 }

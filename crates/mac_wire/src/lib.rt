@@ -27,12 +27,13 @@ mod unsent;
 mod version;
 mod whole;
 mod writer_sink;
+mod writing;
 
 pub use arrival::{Arrival, Ending, FRAME_MAX};
 pub use bytes::Bytes;
 pub use cut::{Cut, next_frame};
 pub use device::{DeviceFault, Sink, Source};
-pub use field_list::FieldList;
+pub use field_list::{FieldList, OwnedFields};
 pub use frame::{FeedFault, FrameReader, opened};
 pub use mem_sink::MemSink;
 pub use mem_source::MemSource;
@@ -48,6 +49,7 @@ pub use unsent::Unsent;
 pub use version::{HELLO, Version};
 pub use whole::whole_frames;
 pub use writer_sink::WriterSink;
+pub use writing::{Field, append_counted_fields, append_long_field, append_short_field};
 
 /// Want of memory.
 pub type NoMemory = std::alloc::AllocError;

@@ -1,15 +1,15 @@
 //! What a client is answered.
 
-ghost use Rattle.std.specs.Prelude.{◌≡◌, ℕ, ◌<◌, ◌≤◌, ◌+◌, ◌^◌, ◌++◌, length, vec_len, vec_capacity, IfOk, OnOk, OnErr};
+ghost use Rattle.std.specs.Prelude.{◌≡◌, ℕ, ◌<◌, ◌≤◌, ◌+◌, ◌++◌, length, vec_len, vec_capacity, IfOk, OnOk, OnErr};
 ghost use Rattle.std.specs.Option.{option_copied};
 ghost use Rattle.mac_wire.specs.Reading.{behind_place, reply_kind_at, reply_kind_of};
-ghost use Rattle.mac_wire.specs.Request.{long_field};
 ghost use Rattle.mac_wire.specs.Reply.{refusal_code, IsReply, place_bytes, placed_payload, reply_payload, reply_frame};
 
 use crate::NoMemory;
 use crate::bytes::Bytes;
 use crate::fields::{byte, number_64};
 use crate::version::Version;
+use crate::writing::{append_long_field, append_within};
 use std::alloc::Global;
 
 /// The greatest token of a reply, in bytes.
@@ -207,8 +207,8 @@ fn append_payload(frames: &mut Vec<u8>, reply: &Reply)
             location,
         } => {
             append_within(frames, &[GRANTED_TO]);
-            append_field(frames, identifier.as_slice());
-            append_field(frames, location.as_slice());
+            append_long_field(frames, identifier.as_slice()).unwrap();
+            append_long_field(frames, location.as_slice()).unwrap();
         }
         Reply::Token(token) => {
             append_within(frames, &[TOKEN]);
@@ -220,26 +220,6 @@ fn append_payload(frames: &mut Vec<u8>, reply: &Reply)
             append_within(frames, &index.to_be_bytes());
         }
     }
-}
-
-/// Appends a length of two bytes and that many bytes, for which there is room.
-fn append_field(frames: &mut Vec<u8>, bytes: &[u8])
-    requires short { length bytes.now < 2 ^ 16 }
-    requires room { vec_len frames.old + length (long_field bytes.now) ≤ vec_capacity frames.old }
-    ensures items { frames.new.items ≡ frames.old.items ++ long_field bytes.now }
-    ensures capacity { vec_capacity frames.old ≤ vec_capacity frames.new }
-{
-    append_within(frames, &(bytes.len() as u16).to_be_bytes());
-    append_within(frames, bytes);
-}
-
-/// Appends bytes for which there is room.
-fn append_within(frames: &mut Vec<u8>, bytes: &[u8])
-    requires { vec_len frames.old + length bytes.now ≤ vec_capacity frames.old }
-    ensures items { frames.new.items ≡ frames.old.items ++ bytes.now }
-    ensures capacity { vec_capacity frames.old ≤ vec_capacity frames.new }
-{
-    frames.extend_from_slice(bytes).unwrap();
 }
 
 /// What the payload of a reply's frame tells, in a stream of this version; nothing where it is too

@@ -1,5 +1,5 @@
 -- What tokens lack, as it is put together.
-use Rattle.std.proofs.Common.{◌≡◌, ◌∙◌, ℕ, ◌<◌, List, [], length, get_or, Option, None, Result, Ok, Err, inl, sym, ap, subst}
+use Rattle.std.proofs.Common.{◌≡◌, ◌∙◌, ℕ, ◌<◌, List, [], length, get_or, Option, sym, ap, subst}
 use Rattle.std.specs.declared.alloc.Global.{Global}
 use Rattle.std.specs.declared.vec.Vec.{Vec}
 use Rattle.std.proofs.lemmas.List.{get_or-map}
@@ -7,9 +7,7 @@ use Rattle.mac_token.specs.RawToken.{byte_lists}
 use Rattle.mac_decide.specs.Lack.{lack_of}
 use Rattle.mac_decide.specs.declared.context.Context.{Context}
 use Rattle.mac_decide.specs.declared.lacks.Lack.{Lack}
-use Rattle.mac_words.specs.Explained.{Explains, TellsLacks, lack_at, lack_told}
-use Rattle.mac_words.specs.Payload.{facts_fault}
-use Rattle.mac_words.specs.declared.fault.FieldFault.{FieldFault}
+use Rattle.mac_words.specs.Explained.{lack_at, lack_told}
 
 -- what the caveat at a place lacks
 pub one_told : (caveats : List (Vec ℕ Global)) (caveat : Vec ℕ Global) (bytes : List ℕ) (place : ℕ) (x : Context) (lack : Option Lack)
@@ -20,9 +18,3 @@ one_told caveats caveat bytes place x lack below is same found =
     let at : get_or texts place [] ≡ bytes =
     get_or-map (λ (c : Vec ℕ Global). c.items) caveats place caveat [] below ∙ ap (λ (c : Vec ℕ Global). c.items) (sym is) ∙ sym same in
     subst (λ b. lack_told lack x place bytes ≡ lack_told (lack_of b x) x place b) (sym at) (ap (λ l. lack_told l x place bytes) found)
-
--- facts without a fault, and what is told with them
-pub explained : (token : List ℕ) (moment : ℕ) (facts : List (List ℕ)) (r : Result (Vec ℕ Global) FieldFault) → facts_fault facts ≡ None
-    → TellsLacks token (record { moment = moment; facts = facts }) r → Explains token moment facts r
-explained token moment facts (Ok text) none told = (none, told)
-explained token moment facts (Err why) none told = inl told

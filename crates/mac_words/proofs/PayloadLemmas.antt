@@ -1,5 +1,5 @@
 -- Words that a request can carry.
-use Rattle.std.proofs.Common.{◌≡◌, ◌∙◌, ℕ, ◌<◌, ◌≤◌, ◌^◌, ◌||◌, Bool, true, false, refl, sym, ap, arith, List, [], ◌∷◌, ◌++◌, length, get_or, string_bytes, Option, Some, None, inl, inr, subst, IfOk, Result, Ok, Err}
+use Rattle.std.proofs.Common.{◌≡◌, ◌∙◌, ℕ, ◌<◌, ◌≤◌, ◌^◌, ◌||◌, Bool, true, false, refl, sym, ap, arith, List, [], ◌∷◌, ◌++◌, length, string_bytes, Option, Some, None, inl, inr, subst, IfOk, Result, Ok, Err}
 use Rattle.std.specs.Prelude.{nat_lt, if◌then◌else◌}
 use Rattle.std.specs.Int.{w64, to_be_bytes}
 use Rattle.std.specs.List.{list_any}
@@ -10,7 +10,6 @@ use Rattle.std.specs.declared.string.String.{String}
 use Rattle.std.specs.declared.vec.Vec.{Vec}
 use Rattle.std.proofs.lemmas.Bool.{ltb-false, le-ltb, lt-ltb}
 use Rattle.std.proofs.lemmas.List.Elements.{All-cons, All-nil}
-use Rattle.std.proofs.lemmas.List.{length-map, get_or-map}
 use Rattle.mac_wire.specs.Request.{Asked, AreFields, IsRequest, payload_of, form_code, short_field, long_field, counted_fields, mint, attenuate, verify}
 use Rattle.mac_wire.specs.declared.arrival.TheConstants.{FRAME_MAX}
 use Rattle.mac_wire.specs.declared.request.TheConstants.{FACTS_MAX}
@@ -20,13 +19,6 @@ use Rattle.mac_words.specs.declared.fault.FieldFault.{FieldFault}
 use Rattle.mac_words.proofs.Appends.{three, five}
 use Rattle.mac_words.specs.declared.fault.FieldFault.TheVariants as fault
 use Rattle.mac_words.specs.declared.payload.TheConstants.{KEY_NAME_MAX, TEXT_MAX, CAVEATS_TOLD_MAX}
-
--- a text among fields is one
-pub short_at : (texts : List (String Global)) (i : ℕ) (text : String Global) → i < length texts → text ≡ get_or texts i text → AreFields (texts_of texts) → length (string_bytes text) < 2 ^ 16
-short_at texts i text below is fields =
-    let bound = fields i (string_bytes text) (rw (length-map texts (λ (t : String Global). string_bytes t)) below) in
-    let same : get_or (texts_of texts) i (string_bytes text) ≡ string_bytes (get_or texts i text) = get_or-map (λ (t : String Global). string_bytes t) texts i text (string_bytes text) below in
-    rw (is, ← same) bound
 
 -- where a test says no, the length is within its bound
 within : (most : ℕ) (why : FieldFault) (other : Option FieldFault) (n : ℕ) → (if nat_lt most n then Some why else other) ≡ None → (n ≤ most) × (other ≡ None)
@@ -59,7 +51,7 @@ any_long [] = refl
 any_long (t ∷ texts) = ap (λ b. nat_lt TEXT_MAX (length (string_bytes t)) || b) (any_long texts)
 
 -- a list without a fault
-pub list_fits : (most : ℕ) (why : FieldFault) (texts : List (List ℕ)) → list_fault most why texts ≡ None → (length texts ≤ most) × AreFields texts
+list_fits : (most : ℕ) (why : FieldFault) (texts : List (List ℕ)) → list_fault most why texts ≡ None → (length texts ≤ most) × AreFields texts
 list_fits most why texts none =
     let few = within most why _ (length texts) none in
     (few.0, go (list_any (λ text. nat_lt TEXT_MAX (length text)) texts) refl few.1)

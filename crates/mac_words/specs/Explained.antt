@@ -78,11 +78,6 @@ abbrev pub lacks_of : Result TokenParts TokenRefusal → Context → List ℕ
 lacks_of (Ok t) x = all_lacks t.caveats x
 lacks_of (Err reason) x = []
 
--- that is told, or memory ran out
-abbrev pub TellsLacks : List ℕ → Context → Result (Vec ℕ Global) FieldFault → Type 0
-TellsLacks token x (Ok text) = text.items ≡ lacks_of (read_of token) x
-TellsLacks token x (Err why) = why ≡ fault.Memory
-
 -- what is told of a token at a moment with these facts, or the first fault of the facts, or memory
 -- ran out
 abbrev pub Explains : List ℕ → ℕ → List (List ℕ) → Result (Vec ℕ Global) FieldFault → Type 0

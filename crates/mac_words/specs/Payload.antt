@@ -5,7 +5,7 @@ use Rattle.std.specs.Option.{option_or}
 use Rattle.std.specs.declared.alloc.Global.{Global}
 use Rattle.std.specs.declared.string.String.{String}
 use Rattle.std.specs.declared.vec.Vec.{Vec}
-use Rattle.mac_wire.specs.Request.{Asked, Asks, counted_fields, mint, attenuate, verify, verify_now, payload_of}
+use Rattle.mac_wire.specs.Request.{Asked, Asks, mint, attenuate, verify, verify_now, payload_of}
 use Rattle.mac_wire.specs.declared.arrival.TheConstants.{FRAME_MAX}
 use Rattle.mac_wire.specs.declared.request.TheConstants.{FACTS_MAX}
 use Rattle.mac_words.specs.declared.fault.FieldFault.{FieldFault}
@@ -56,10 +56,9 @@ GivesPayload request (Ok payload) =
     (first_fault request ≡ None) × Asks payload.items request
 GivesPayload request (Err why) = (why ≡ fault.Memory) ⊎ (first_fault request ≡ Some why)
 
--- the facts as a request carries them, or the first fault of them, or memory ran out
-abbrev pub GivesCounted : List (List ℕ) → Result (Vec ℕ Global) FieldFault → Type 0
-GivesCounted facts (Ok counted) =
-    (facts_fault facts ≡ None) × (counted.items ≡ counted_fields facts)
+-- the facts, which a request carries, or the first fault of them, or memory ran out
+abbrev pub GivesCounted : List (List ℕ) → Result (List (List ℕ)) FieldFault → Type 0
+GivesCounted facts (Ok counted) = (facts_fault facts ≡ None) × (counted ≡ facts)
 GivesCounted facts (Err why) = (why ≡ fault.Memory) ⊎ (facts_fault facts ≡ Some why)
 
 -- ---- for proofs

@@ -1,11 +1,10 @@
 //! What a refused token lacks, as people are told.
 
-ghost use Rattle.std.specs.Prelude.{◌≡◌, ◌<◌, ◌^◌, ◌++◌, List, ℕ, length, IfOk, OnOk};
+ghost use Rattle.std.specs.Prelude.{◌≡◌, ◌<◌, ◌++◌, IfOk, OnOk};
 ghost use Rattle.std.specs.Fmt.{decimal, signed_decimal};
 ghost use Rattle.mac_token.specs.RawToken.{byte_lists};
 ghost use Rattle.mac_token.specs.Read.{read_of};
-ghost use Rattle.mac_wire.specs.Request.{AreFields, counted_fields};
-ghost use Rattle.mac_words.specs.Explained.{Explains, TellsLacks, ahead_words, all_lacks, ended_words};
+ghost use Rattle.mac_words.specs.Explained.{Explains, ahead_words, all_lacks, ended_words};
 ghost use Rattle.mac_words.specs.Explained.{fact_words, lack_at, lack_lines, lack_told, lack_words};
 ghost use Rattle.mac_words.specs.Explained.{difference_words, lacks_of};
 ghost use Rattle.mac_words.specs.Payload.{texts_of};
@@ -16,7 +15,7 @@ use crate::fault::FieldFault;
 use crate::payload::counted_facts;
 use mac_decide::{Context, Lack, find_lack, nearest_fact, shared};
 use mac_token::{TokenFault, read};
-use mac_wire::{FieldList, NoMemory};
+use mac_wire::NoMemory;
 use std::alloc::{AllocError, Global};
 
 /// Two lines for each caveat of a token that isn't satisfied at a moment, in seconds since 1970,
@@ -31,24 +30,8 @@ pub fn explain(
     ensures { Explains token.now moment (texts_of facts.now) result }
 {
     let counted = counted_facts(alloc, facts)?;
-    explain_counted(alloc, token, moment, &counted)
-}
-
-/// The same with counted facts.
-fn explain_counted(
-    alloc: Global,
-    token: &[u8],
-    moment: u64,
-    counted: &[u8],
-) -> Result<Vec<u8>, FieldFault>
-    ensures { (facts : List (List ℕ)) → counted.now ≡ counted_fields facts
-        → length facts < 2 ^ 8 → AreFields facts
-        → TellsLacks token.now (record { moment = moment; facts = facts }) result }
-{
-    match FieldList::read(counted) {
-        Some(facts) => Ok(lacks_of(alloc, token, &Context { moment, facts })?),
-        None => Err(FieldFault::ManyFacts),
-    }
+    let facts = counted.lend();
+    Ok(lacks_of(alloc, token, &Context { moment, facts })?)
 }
 
 /// What the token lacks that the bytes spell.

@@ -1,11 +1,10 @@
 //! Requests in words, as the payloads that ask them.
 
-ghost use Rattle.std.specs.Prelude.{◌≡◌, ◌<◌, ◌^◌, ◌++◌, IfOk, ℕ, nat_lt, length, string_bytes, OnOk};
-ghost use Rattle.std.specs.List.{flat_map, list_any};
+ghost use Rattle.std.specs.Prelude.{◌≡◌, IfOk, ℕ, nat_lt, length, string_bytes};
+ghost use Rattle.std.specs.List.{list_any};
 ghost use Rattle.mac_decide.specs.Answer.{full_answer};
 ghost use Rattle.mac_wire.specs.Reply.{IsReply};
-ghost use Rattle.mac_wire.specs.Request.{AreFields, IsRequest, mint, attenuate, verify};
-ghost use Rattle.mac_wire.specs.Request.{short_field, long_field, counted_fields, payload_of};
+ghost use Rattle.mac_wire.specs.Request.{IsRequest, attenuate, mint, payload_of, verify};
 ghost use Rattle.mac_wire.specs.declared.request.TokenForm.{TokenForm};
 ghost use Rattle.mac_words.specs.Payload.{GivesPayload, texts_of, name_fault, text_fault};
 ghost use Rattle.mac_words.specs.Payload.{list_fault, facts_fault, field_fault, GivesCounted, IsFramed};
@@ -13,7 +12,10 @@ ghost use Rattle.mac_words.specs.Payload.{list_fault, facts_fault, field_fault, 
 use crate::fault::FieldFault;
 use mac_decide::{Rights, Terms, answer, job_of};
 use mac_keys::KeyTable;
-use mac_wire::{Arrival, Bytes, FACTS_MAX, FRAME_MAX, NoMemory, Reply, TokenForm};
+use mac_wire::{
+    Arrival, Bytes, FACTS_MAX, FRAME_MAX, NoMemory, OwnedFields, Reply, TokenForm,
+    append_counted_fields, append_long_field, append_short_field,
+};
 use std::alloc::Global;
 
 /// The greatest length of a key's name in a request, in bytes.
@@ -109,10 +111,10 @@ fn mint_bytes(
 {
     let mut payload = Vec::new(alloc);
     payload.extend_from_slice(&[1, form.code()])?;
-    put_name(&mut payload, key)?;
-    put_text(&mut payload, location)?;
-    put_text(&mut payload, identifier)?;
-    put_counted_fields(&mut payload, caveats)?;
+    append_short_field(&mut payload, key.as_bytes())?;
+    append_long_field(&mut payload, location.as_bytes())?;
+    append_long_field(&mut payload, identifier.as_bytes())?;
+    append_counted_fields(&mut payload, caveats)?;
     Ok(payload)
 }
 
@@ -129,8 +131,8 @@ fn attenuate_bytes(
 {
     let mut payload = Vec::new(alloc);
     payload.extend_from_slice(&[2, form.code()])?;
-    put_long_field(&mut payload, token)?;
-    put_counted_fields(&mut payload, caveats)?;
+    append_long_field(&mut payload, token)?;
+    append_counted_fields(&mut payload, caveats)?;
     Ok(payload)
 }
 
@@ -148,10 +150,10 @@ fn verify_bytes(
 {
     let mut payload = Vec::new(alloc);
     payload.extend_from_slice(&[3])?;
-    put_name(&mut payload, key)?;
-    put_long_field(&mut payload, token)?;
+    append_short_field(&mut payload, key.as_bytes())?;
+    append_long_field(&mut payload, token)?;
     payload.extend_from_slice(&moment.to_be_bytes())?;
-    put_counted_fields(&mut payload, facts)?;
+    append_counted_fields(&mut payload, facts)?;
     Ok(payload)
 }
 
@@ -250,75 +252,14 @@ fn is_long(text: &[u8]) -> bool
     text.len() > TEXT_MAX
 }
 
-/// Appends a length of one byte, and that many bytes.
-fn put_name(payload: &mut Vec<u8>, name: &str) -> Result<(), NoMemory>
-    requires { length name.now < 2 ^ 8 }
-    ensures { OnOk result (payload.new.items ≡ payload.old.items ++ short_field name.now) }
-{
-    payload.push(name.len() as u8)?;
-    payload.extend_from_slice(name.as_bytes())
-}
-
-/// Appends a length of two bytes, and that many bytes of text.
-fn put_text(payload: &mut Vec<u8>, text: &str) -> Result<(), NoMemory>
-    requires { length text.now < 2 ^ 16 }
-    ensures { OnOk result (payload.new.items ≡ payload.old.items ++ long_field text.now) }
-{
-    put_long_field(payload, text.as_bytes())
-}
-
-/// Appends a length of two bytes, and that many bytes.
-fn put_long_field(payload: &mut Vec<u8>, bytes: &[u8]) -> Result<(), NoMemory>
-    requires { length bytes.now < 2 ^ 16 }
-    ensures { OnOk result (payload.new.items ≡ payload.old.items ++ long_field bytes.now) }
-{
-    let length = bytes.len() as u16;
-    payload.extend_from_slice(&length.to_be_bytes())?;
-    payload.extend_from_slice(bytes)
-}
-
-/// Facts as a request carries them, if one does.
-pub(crate) fn counted_facts(alloc: Global, facts: &[String]) -> Result<Vec<u8>, FieldFault>
+/// Facts as a list of fields, if a request carries them.
+pub(crate) fn counted_facts(alloc: Global, facts: &[String]) -> Result<OwnedFields, FieldFault>
     ensures { GivesCounted (texts_of facts.now) result }
 {
     match facts_fault(facts) {
         Some(fault) => Err(fault),
-        None => Ok(counted_fields(alloc, facts)?),
+        None => Ok(OwnedFields::new(alloc, facts)?),
     }
-}
-
-/// A count of one byte, and that many texts behind lengths of two bytes.
-fn counted_fields(alloc: Global, texts: &[String]) -> Result<Vec<u8>, NoMemory>
-    requires count { length (texts_of texts.now) < 2 ^ 8 }
-    requires each { AreFields (texts_of texts.now) }
-    ensures { IfOk result (λ counted. counted.items ≡ counted_fields (texts_of texts.now)) }
-{
-    let mut counted = Vec::new(alloc);
-    put_counted_fields(&mut counted, texts)?;
-    Ok(counted)
-}
-
-/// Appends a count of one byte, and that many texts behind lengths of two bytes.
-fn put_counted_fields(payload: &mut Vec<u8>, texts: &[String]) -> Result<(), NoMemory>
-    requires count { length (texts_of texts.now) < 2 ^ 8 }
-    requires each { AreFields (texts_of texts.now) }
-    ensures { OnOk result (payload.new.items
-        ≡ payload.old.items ++ counted_fields (texts_of texts.now)) }
-{
-    payload.push(texts.len() as u8)?;
-    put_fields(payload, texts)
-}
-
-/// Appends texts behind lengths of two bytes.
-fn put_fields(payload: &mut Vec<u8>, texts: &[String]) -> Result<(), NoMemory>
-    requires { AreFields (texts_of texts.now) }
-    ensures { OnOk result (payload.new.items
-        ≡ payload.old.items ++ flat_map long_field (texts_of texts.now)) }
-{
-    for text in texts {
-        put_long_field(payload, text.as_bytes())?;
-    }
-    Ok(())
 }
 
 /// The payload, where a frame carries it.
