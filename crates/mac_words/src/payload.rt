@@ -6,7 +6,6 @@ ghost use Rattle.mac_decide.specs.Answer.{full_answer};
 ghost use Rattle.mac_wire.specs.Reply.{IsReply};
 ghost use Rattle.mac_wire.specs.Request.{AreFields, IsRequest, mint, attenuate, verify};
 ghost use Rattle.mac_wire.specs.Request.{short_field, long_field, counted_fields, payload_of};
-ghost use Rattle.mac_wire.specs.declared.request.TokenForm.{TokenForm};
 ghost use Rattle.mac_words.specs.Payload.{GivesPayload, texts_of, name_fault, text_fault};
 ghost use Rattle.mac_words.specs.Payload.{list_fault, facts_fault, field_fault, GivesCounted, IsFramed};
 
