@@ -12,7 +12,7 @@ use Rattle.serde_json.specs.Written.{compact_text, has_float, items_have_float, 
 use Rattle.hex.specs.Hex.{encode_lower}
 use Rattle.mac_token.specs.Base64Text.{base64_of}
 use Rattle.mac_token.specs.RawToken.{TokenParts}
-use Rattle.mac_calls.specs.declared.form.CallForm.{CallForm}
+use Rattle.mac_token.specs.declared.form.TokenForm.{TokenForm}
 use Rattle.mac_calls.specs.Form.{form_of_text, form_word}
 use Rattle.mac_calls.specs.Json.{caveat_object, inspect_object, inspected, put_bytes}
 use Rattle.mac_calls.specs.Members.{token_in}
@@ -55,7 +55,7 @@ caveats_without_float [] = refl
 caveats_without_float (caveat ∷ caveats) =
     rw (bytes_without_float (codes "text") (codes "bytes64") caveat no_members refl, caveats_without_float caveats) refl
 
-inspected_without_float : (form : CallForm) (t : TokenParts) → has_float (inspect_object form t) ≡ false
+inspected_without_float : (form : TokenForm) (t : TokenParts) → has_float (inspect_object form t) ≡ false
 unfolding inspect_object
 inspected_without_float form t =
     let signature : Members = put (codes "signature") (string (encode_lower t.sig)) no_members in
@@ -69,7 +69,7 @@ inspected_without_float form t =
     (put_without_float (codes "signature") (string (encode_lower t.sig)) no_members refl refl))))
 
 -- the text that is written of the object
-pub inspected_text : (form : CallForm) (t : TokenParts) (d : Data) (text : List ℕ) → d ≡ inspect_object form t
+pub inspected_text : (form : TokenForm) (t : TokenParts) (d : Data) (text : List ℕ) → d ≡ inspect_object form t
     → (has_float d ≡ false → text ≡ compact_text d) → text ≡ compact_text (inspect_object form t)
 inspected_text form t d text is writes = writes (ap has_float is ∙ inspected_without_float form t) ∙ ap compact_text is
 
@@ -81,7 +81,7 @@ abbrev told_of_text : List ℕ → Step (List ℕ)
 told_of_text text = received text >>= told_of text
 
 -- the whole of an inspect, from what each step gave
-pub inspect_told : (d : Data) (given text items : List ℕ) (form : CallForm) (t : TokenParts) (value : Data)
+pub inspect_told : (d : Data) (given text items : List ℕ) (form : TokenForm) (t : TokenParts) (value : Data)
     → token_in d ≡ Ok given → text ≡ given → received text ≡ Ok t → form ≡ form_of_text text → value ≡ inspect_object form t
     → (has_float value ≡ false → items ≡ compact_text value) → inspected d ≡ Ok items
 inspect_told d given text items form t value there same is_read formed is writes =

@@ -9,9 +9,9 @@ use Rattle.serde_json.specs.Written.{compact_text}
 use Rattle.mac_token.specs.Base64Text.{base64_of}
 use Rattle.mac_wire.specs.Reply.{refusal_code}
 use Rattle.mac_token.specs.RawToken.{TokenParts}
+use Rattle.mac_token.specs.declared.form.TokenForm.{TokenForm}
 use Rattle.mac_calls.specs.declared.fault.CallRefusal.{CallRefusal}
 use Rattle.mac_calls.specs.declared.fault.CallRefusal.TheVariants.{Body, Token}
-use Rattle.mac_calls.specs.declared.form.CallForm.{CallForm}
 use Rattle.mac_calls.specs.Fault.{body_reason, reason}
 use Rattle.mac_calls.specs.Form.{form_of_text, form_word}
 use Rattle.mac_calls.specs.Members.{has_identifier, token_in}
@@ -56,7 +56,7 @@ abbrev pub caveat_object : List ℕ → Data
 caveat_object caveat = object (put_bytes (codes "text") (codes "bytes64") caveat no_members)
 
 -- what a token says that came in a form, its members sorted by name
-unfoldable pub inspect_object : CallForm → TokenParts → Data
+unfoldable pub inspect_object : TokenForm → TokenParts → Data
 inspect_object form t =
     object (put (codes "caveats") (array (items_of (map caveat_object t.caveats)))
     (put (codes "form") (string (form_word form))

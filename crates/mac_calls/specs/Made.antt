@@ -6,17 +6,17 @@ use Rattle.mac_decide.specs.Answer.{request_reply}
 use Rattle.mac_keys.specs.declared.keys.Keys.{Keys}
 use Rattle.mac_token.specs.declared.limits.TheConstants.{TOKEN_MAX}
 use Rattle.mac_token.specs.Base64Text.{base64_of}
+use Rattle.mac_token.specs.declared.form.TokenForm.{TokenForm}
+use Rattle.mac_token.specs.declared.form.TokenForm.TheVariants.{V1Text, V2Binary, V2Json, V2Text}
 use Rattle.mac_wire.specs.Request.{attenuate, mint}
 use Rattle.mac_wire.specs.declared.reply.Refusal.TheVariants as refusal
 use Rattle.mac_wire.specs.declared.reply.Reply.{Reply}
 use Rattle.mac_wire.specs.declared.reply.Reply.TheVariants as reply
 use Rattle.mac_calls.specs.declared.fault.BodyFault.TheVariants.{NoCaveat}
 use Rattle.mac_calls.specs.declared.fault.CallRefusal.TheVariants.{Body, Token}
-use Rattle.mac_calls.specs.declared.form.CallForm.{CallForm}
-use Rattle.mac_calls.specs.declared.form.CallForm.TheVariants.{V1, V2, Json}
 use Rattle.mac_calls.specs.Asking.{basis_of}
 use Rattle.mac_calls.specs.Counted.{are_few}
-use Rattle.mac_calls.specs.Form.{form_of_text, wire_form}
+use Rattle.mac_calls.specs.Form.{form_of_text}
 use Rattle.mac_calls.specs.Members.{caveats_in, form_in, identifier_in, location_in, token_in}
 use Rattle.mac_calls.specs.Steps.{Step, ◌>>=◌}
 use Rattle.mac_calls.specs.Warned.{all_warnings}
@@ -26,14 +26,15 @@ abbrev pub as_text : List ℕ → Step (List ℕ)
 as_text bytes =
     if nat_lt TOKEN_MAX (length (base64_of bytes)) then Err (Token refusal.Limit) else Ok (base64_of bytes)
 
--- the text of what is written in a form: that of V1 and V2 is base64 already
-abbrev pub text_of_written : CallForm → List ℕ → Step (List ℕ)
-text_of_written V1 written = Ok written
-text_of_written V2 written = Ok written
-text_of_written Json written = as_text written
+-- the text of what is written in a form: that of V1Text and V2Text is base64 already
+abbrev pub text_of_written : TokenForm → List ℕ → Step (List ℕ)
+text_of_written V1Text written = Ok written
+text_of_written V2Binary written = as_text written
+text_of_written V2Json written = as_text written
+text_of_written V2Text written = Ok written
 
 -- the text of the token that a reply brings in a form
-abbrev pub made_text : CallForm → Reply → Step (List ℕ)
+abbrev pub made_text : TokenForm → Reply → Step (List ℕ)
 made_text form (reply.Token written) = text_of_written form written
 made_text form (reply.Refused why) = Err (Token why)
 made_text form (reply.Unsatisfied index) = Err (Token refusal.BadRequest)
@@ -41,18 +42,18 @@ made_text form reply.Granted = Err (Token refusal.BadRequest)
 made_text form (reply.GrantedTo identifier location) = Err (Token refusal.BadRequest)
 
 -- what the wire's mint of these parts is replied with under the keys
-abbrev pub mint_reply : Keys → CallForm → List ℕ → List ℕ → List (List ℕ) → Reply
+abbrev pub mint_reply : Keys → TokenForm → List ℕ → List ℕ → List (List ℕ) → Reply
 mint_reply keys form location identifier caveats =
-    request_reply (mint (wire_form form) [] location identifier caveats) (basis_of (Some keys))
+    request_reply (mint form [] location identifier caveats) (basis_of (Some keys))
 
 -- the token of these parts under the name's first key, in a form; more caveats, or longer ones, than
 -- the wire takes pass a limit of tokens
-abbrev pub new_text : Keys → CallForm → List ℕ → List ℕ → List (List ℕ) → Step (List ℕ)
+abbrev pub new_text : Keys → TokenForm → List ℕ → List ℕ → List (List ℕ) → Step (List ℕ)
 new_text keys form location identifier caveats =
     if are_few caveats then made_text form (mint_reply keys form location identifier caveats)
     else Err (Token refusal.Limit)
 
--- the token that an object asks for, in the form V2 where it asks for none: its identifier, its text,
+-- the token that an object asks for, in the form V2Text where it asks for none: its identifier, its text,
 -- and what is told of its caveats at a moment
 abbrev pub minted : Keys → List ℕ → ℕ → Data → Step (List ℕ × (List ℕ × List ℕ))
 minted keys drawn moment d = do
@@ -60,7 +61,7 @@ minted keys drawn moment d = do
   location ← location_in d
   caveats ← caveats_in d
   form ← form_in d
-  text ← new_text keys (unwrap_or form V2) location identifier caveats
+  text ← new_text keys (unwrap_or form V2Text) location identifier caveats
   Ok (identifier, (text, all_warnings caveats moment))
 
 -- the caveats, if there are any
@@ -69,12 +70,12 @@ some_caveat [] = Err (Body NoCaveat)
 some_caveat (c ∷ cs) = Ok (c ∷ cs)
 
 -- what the wire's attenuate of a token is replied with
-abbrev pub attenuate_reply : CallForm → List ℕ → List (List ℕ) → Reply
+abbrev pub attenuate_reply : TokenForm → List ℕ → List (List ℕ) → Reply
 attenuate_reply form token caveats =
-    request_reply (attenuate (wire_form form) token caveats) (basis_of None)
+    request_reply (attenuate form token caveats) (basis_of None)
 
 -- the token with these caveats behind its own, in a form
-abbrev pub narrowed : CallForm → List ℕ → List (List ℕ) → Step (List ℕ)
+abbrev pub narrowed : TokenForm → List ℕ → List (List ℕ) → Step (List ℕ)
 narrowed form token caveats =
     if are_few caveats then made_text form (attenuate_reply form token caveats)
     else Err (Token refusal.Limit)

@@ -7,10 +7,10 @@ use Rattle.base64.specs.Engines.{url_safe_pad_indifferent}
 use Rattle.base64.specs.GeneralPurpose.{decode_of}
 use Rattle.serde_json.specs.Data.{Data, Items, no_items, item}
 use Rattle.serde_json.specs.Find.{get, as_array, as_number, as_str, as_u64}
+use Rattle.mac_token.specs.declared.form.TokenForm.{TokenForm}
 use Rattle.mac_calls.specs.declared.fault.BodyFault.{BodyFault}
 use Rattle.mac_calls.specs.declared.fault.BodyFault.TheVariants as fault
 use Rattle.mac_calls.specs.declared.fault.CallRefusal.TheVariants.{Body}
-use Rattle.mac_calls.specs.declared.form.CallForm.{CallForm}
 use Rattle.mac_calls.specs.Form.{form_named}
 use Rattle.mac_calls.specs.Steps.{Step, or_fault, ◌>>=◌}
 
@@ -71,12 +71,12 @@ abbrev pub caveats_in : Data → Step (List (List ℕ))
 caveats_in d = texts_or_none fault.Caveats (get (codes "caveats") d)
 
 -- the form that is asked for, if it isn't left out
-abbrev pub form_of : Option Data → Step (Option CallForm)
+abbrev pub form_of : Option Data → Step (Option TokenForm)
 form_of None = Ok None
 form_of (Some d) =
     text_of fault.Form d >>= λ word. or_fault fault.Form (form_named word) >>= λ form. Ok (Some form)
 
-abbrev pub form_in : Data → Step (Option CallForm)
+abbrev pub form_in : Data → Step (Option TokenForm)
 form_in d = form_of (get (codes "form") d)
 
 abbrev pub facts_in : Data → Step (List (List ℕ))

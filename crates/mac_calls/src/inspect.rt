@@ -8,11 +8,11 @@ ghost use Rattle.mac_calls.specs.Gives.{Gives};
 ghost use Rattle.mac_calls.specs.Json.{caveat_object, inspect_object, inspected, put_bytes};
 
 use crate::fault::CallFault;
-use crate::form::CallForm;
+use crate::form::form_word;
 use crate::members::token_in;
 use crate::received::receive;
 use base64::engine::general_purpose::URL_SAFE_NO_PAD;
-use mac_token::Token;
+use mac_token::{Token, TokenForm};
 use serde_json::{Map, Value, put};
 use std::alloc::{AllocError, Global};
 
@@ -28,13 +28,13 @@ pub(crate) fn inspected(alloc: Global, object: &Value) -> Result<Vec<u8>, CallFa
 
 /// What a token says, as an object.
 #[tactic(auto, unfolding(crate::specs::Json::inspect_object))]
-fn told(alloc: Global, form: CallForm, token: &Token) -> Result<Value, AllocError>
+fn told(alloc: Global, form: TokenForm, token: &Token) -> Result<Value, AllocError>
     ensures { IfOk result (λ value. view value ≡ inspect_object form token.now) }
 {
     let caveats = caveat_values(alloc, token.caveat_list())?;
     let signature = hex::encode(alloc, token.sig())?;
     let location = Value::try_from_str(alloc, token.location())?;
-    let form = Value::try_from_str(alloc, form.word())?;
+    let form = Value::try_from_str(alloc, form_word(form))?;
     let mut object = Map::new(alloc);
     put(&mut object, alloc, "signature", Value::from(signature))?;
     put(&mut object, alloc, "location", location)?;

@@ -11,19 +11,18 @@ ghost use Rattle.mac_wire.specs.Request.{attenuate, mint};
 ghost use Rattle.mac_wire.specs.declared.reply.Reply.TheVariants as reply;
 ghost use Rattle.mac_decide.specs.declared.job.Basis.{Basis};
 ghost use Rattle.mac_token.specs.Read.{read_of};
+ghost use Rattle.mac_token.specs.declared.form.TokenForm.{TokenForm};
 ghost use Rattle.mac_calls.specs.Asking.{Verifier};
-ghost use Rattle.mac_calls.specs.declared.form.CallForm.{CallForm};
-ghost use Rattle.mac_calls.specs.Form.{wire_form};
 ghost use Rattle.mac_calls.specs.Judged.{holding, reply_json, verify_reply};
 ghost use Rattle.mac_calls.specs.Made.{narrowed, new_text, text_of_written};
 
 /// What a mint is answered with is the text of the token that the wire's request is replied with.
 pub fn mints_as_the_wire()
-    ensures { (keys : Keys) (form : CallForm) (name location identifier : List ℕ)
+    ensures { (keys : Keys) (form : TokenForm) (name location identifier : List ℕ)
         (caveats : List (List ℕ)) (back : Bool) (moment : Option ℕ) (text : List ℕ)
         → new_text keys form location identifier caveats ≡ Ok text
         → (written : List ℕ) × (text_of_written form written ≡ Ok text)
-        × (request_reply (mint (wire_form form) name location identifier caveats)
+        × (request_reply (mint form name location identifier caveats)
         (record { keys = Some keys; is_revoked = back; may_mint = true; moment = moment })
         ≡ reply.Token written) }
 {}
@@ -31,10 +30,10 @@ pub fn mints_as_the_wire()
 /// What an attenuate is answered with is the text of the token that the wire's request is replied
 /// with.
 pub fn attenuates_as_the_wire()
-    ensures { (form : CallForm) (token : List ℕ) (caveats : List (List ℕ))
+    ensures { (form : TokenForm) (token : List ℕ) (caveats : List (List ℕ))
         (basis : Basis) (text : List ℕ) → narrowed form token caveats ≡ Ok text
         → (written : List ℕ) × (text_of_written form written ≡ Ok text)
-        × (request_reply (attenuate (wire_form form) token caveats) basis
+        × (request_reply (attenuate form token caveats) basis
         ≡ reply.Token written) }
 {}
 

@@ -29,5 +29,4 @@ pub use call::Call;
 pub use counted::{FACT_MAX, counted_facts};
 pub use fault::{BodyFault, CallRefusal};
 pub use fingerprint::append_fingerprint;
-pub use form::CallForm;
 pub use names::names_json;

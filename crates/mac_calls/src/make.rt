@@ -10,13 +10,12 @@ ghost use Rattle.mac_calls.specs.Made.{minted, narrowed, new_text, some_caveat};
 use crate::asking::ask;
 use crate::counted::counted_facts;
 use crate::fault::{BodyFault, CallFault};
-use crate::form::CallForm;
 use crate::members::{caveats_in, form_in, identifier_in, location_in, token_in};
 use crate::received::form_of_text;
 use crate::warned::list_warnings;
 use base64::engine::general_purpose::URL_SAFE_NO_PAD;
 use mac_keys::Keys;
-use mac_token::TOKEN_MAX;
+use mac_token::{TOKEN_MAX, TokenForm};
 use mac_wire::{Refusal, Reply, Request};
 use serde_json::Value;
 use std::alloc::Global;
@@ -33,7 +32,7 @@ pub(crate) struct NewToken {
 }
 
 /// The token that an object asks for, under the first of the keys, and what is told of its caveats
-/// at a moment; in the form V2 where it asks for none.
+/// at a moment; in the form `V2Text` where it asks for none.
 pub(crate) fn minted(
     alloc: Global,
     keys: &Keys,
@@ -47,7 +46,7 @@ pub(crate) fn minted(
     let identifier = identifier_in(alloc, drawn, object)?;
     let location = location_in(object)?;
     let caveats = caveats_in(alloc, object)?;
-    let form = form_in(object)?.unwrap_or(CallForm::V2);
+    let form = form_in(object)?.unwrap_or(TokenForm::V2Text);
     let text = new_text(alloc, keys, form, location, &identifier, &caveats)?;
     let warnings = list_warnings(alloc, &caveats, moment)?;
     Ok(NewToken {
@@ -61,7 +60,7 @@ pub(crate) fn minted(
 fn new_text<'a>(
     alloc: Global,
     keys: &Keys,
-    form: CallForm,
+    form: TokenForm,
     location: &'a str,
     identifier: &'a [u8],
     caveats: &[Vec<u8>],
@@ -74,7 +73,7 @@ fn new_text<'a>(
     };
     let caveats = counted.lend();
     let request = Request::Mint {
-        form: form.wire(),
+        form,
         key: b"",
         location,
         identifier,
@@ -121,7 +120,7 @@ fn some_caveat(caveats: Vec<Vec<u8>>) -> Result<Vec<Vec<u8>>, CallFault>
 /// The text of a token with these caveats behind its own, in a form.
 fn narrowed(
     alloc: Global,
-    form: CallForm,
+    form: TokenForm,
     token: &[u8],
     caveats: &[Vec<u8>],
 ) -> Result<Vec<u8>, CallFault>
@@ -133,7 +132,7 @@ fn narrowed(
     };
     let caveats = counted.lend();
     let request = Request::Attenuate {
-        form: form.wire(),
+        form,
         token,
         caveats,
     };
@@ -143,12 +142,12 @@ fn narrowed(
 
 /// The text of the token that a reply brings in a form, as an `Authorization` brings it. A reply
 /// that brings none refuses.
-fn made_text(alloc: Global, form: CallForm, reply: Reply) -> Result<Vec<u8>, CallFault>
+fn made_text(alloc: Global, form: TokenForm, reply: Reply) -> Result<Vec<u8>, CallFault>
     ensures { Gives (λ text. text.items) result (made_text form reply) }
 {
     match (reply, form) {
-        (Reply::Token(written), CallForm::V1 | CallForm::V2) => Ok(written.into_vec()),
-        (Reply::Token(written), CallForm::Json) => as_text(alloc, written.as_slice()),
+        (Reply::Token(written), TokenForm::V1Text | TokenForm::V2Text) => Ok(written.into_vec()),
+        (Reply::Token(written), _) => as_text(alloc, written.as_slice()),
         (Reply::Refused(why), _) => Err(why.into()),
         _ => Err(Refusal::BadRequest.into()),
     }

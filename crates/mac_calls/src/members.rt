@@ -8,9 +8,10 @@ ghost use Rattle.mac_calls.specs.Members.{caveats_in, decoded, facts_in, form_in
 ghost use Rattle.mac_calls.specs.Members.{has_identifier, location_in, moment_in, text_of, texts_of, token_in};
 
 use crate::fault::{BodyFault, CallFault};
-use crate::form::CallForm;
+use crate::form::form_named;
 use base64::DecodeAllocError;
 use base64::engine::general_purpose::URL_SAFE_PAD_INDIFFERENT;
+use mac_token::TokenForm;
 use serde_json::Value;
 use std::alloc::Global;
 
@@ -115,14 +116,14 @@ fn texts_of(alloc: Global, why: BodyFault, value: &Value) -> Result<Vec<Vec<u8>>
 }
 
 /// The form that is asked for, if it isn't left out.
-pub(crate) fn form_in(object: &Value) -> Result<Option<CallForm>, CallFault>
+pub(crate) fn form_in(object: &Value) -> Result<Option<TokenForm>, CallFault>
     ensures { Gives (λ form. form) result (form_in (view object.now)) }
 {
     let Some(value) = object.get("form") else {
         return Ok(None);
     };
     let word = text_of(BodyFault::Form, value)?;
-    match CallForm::named(word) {
+    match form_named(word) {
         Some(form) => Ok(Some(form)),
         None => Err(BodyFault::Form.into()),
     }

@@ -8,15 +8,15 @@ ghost use Rattle.mac_calls.specs.Received.{received};
 ghost use Rattle.mac_calls.specs.Steps.{of_token};
 
 use crate::fault::CallFault;
-use crate::form::CallForm;
-use mac_token::{Token, TokenFault, bare, read_bare};
+use crate::form::form_of_bare;
+use mac_token::{Token, TokenFault, TokenForm, bare, read_bare};
 use std::alloc::{AllocError, Global};
 
 /// A token, and the form in which it came.
 #[derive(Drop)]
 pub(crate) struct Received {
     pub(crate) token: Token,
-    pub(crate) form: CallForm,
+    pub(crate) form: TokenForm,
 }
 
 /// The token that a text spells, as an `Authorization` brings it.
@@ -29,14 +29,14 @@ pub(crate) fn receive(alloc: Global, text: &[u8]) -> Result<Received, CallFault>
     receive_bare(alloc, bytes)
 }
 
-/// The form in which a token's text came. A text that carries nothing is as one of V2.
-pub(crate) fn form_of_text(alloc: Global, text: &[u8]) -> Result<CallForm, AllocError>
+/// The form in which a token's text came. A text that carries nothing is as a `V2Text`.
+pub(crate) fn form_of_text(alloc: Global, text: &[u8]) -> Result<TokenForm, AllocError>
     ensures { IfOk result (λ form. form ≡ form_of_text text.now) }
 {
     let mut room = Vec::new(alloc);
     match bare(&mut room, text) {
-        Ok(bytes) => Ok(CallForm::of_bare(bytes)),
-        Err(TokenFault::Refused(_)) => Ok(CallForm::V2),
+        Ok(bytes) => Ok(form_of_bare(bytes)),
+        Err(TokenFault::Refused(_)) => Ok(TokenForm::V2Text),
         Err(TokenFault::Memory) => Err(AllocError),
     }
 }
@@ -50,6 +50,6 @@ fn receive_bare(alloc: Global, bytes: &[u8]) -> Result<Received, CallFault>
     let token = read_bare(alloc, bytes)?;
     Ok(Received {
         token,
-        form: CallForm::of_bare(bytes),
+        form: form_of_bare(bytes),
     })
 }

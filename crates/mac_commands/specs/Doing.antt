@@ -15,13 +15,13 @@ use Rattle.mac_keys.specs.declared.change.ChangeFault.TheVariants as change
 use Rattle.mac_keys.specs.declared.fault.KeyFault.TheVariants as key
 use Rattle.mac_keys.specs.KeyTable.{Table, table_of}
 use Rattle.mac_keys.specs.Revoked.{Revoked, nothing, revoked_of}
-use Rattle.mac_wire.specs.declared.request.TokenForm.{TokenForm}
 use Rattle.mac_words.specs.Escaped.{escaped}
 use Rattle.mac_words.specs.KeyLine.{GivesLine}
 use Rattle.mac_words.specs.Moment.{IsMoment}
 use Rattle.mac_token.specs.RawToken.{RawParts}
 use Rattle.mac_token.specs.Read.{raw_read_of}
 use Rattle.mac_token.specs.declared.fault.TokenRefusal.{TokenRefusal}
+use Rattle.mac_token.specs.declared.form.TokenForm.{TokenForm}
 use Rattle.mac_words.specs.NameList.{names_text}
 use Rattle.mac_words.specs.Revoked.{count_text, ended, kept_lines, revoked_text}
 use Rattle.mac_words.specs.Said.{Says, SaysAlone, SaysBytes, SaysUnder}

@@ -11,8 +11,8 @@ use Rattle.clap.specs.Words.{with_subcommand}
 use Rattle.clap.specs.declared.builder.action.ArgAction.TheVariants.{Append}
 use Rattle.clap.specs.declared.builder.value_parser.ValueParser.TheVariants.{NonEmptyString}
 use Rattle.mac_keys.specs.KeyTable.{Table, table_of}
+use Rattle.mac_token.specs.declared.form.TokenForm.{TokenForm}
 use Rattle.mac_wire.specs.Request.{Asked, mint, attenuate, verify}
-use Rattle.mac_wire.specs.declared.request.TokenForm.{TokenForm}
 use Rattle.mac_words.specs.Moment.{IsMoment}
 use Rattle.mac_words.specs.Payload.{texts_of}
 use Rattle.mac_words.specs.Said.{Says, mint_form, next_form}

@@ -17,7 +17,7 @@ use Rattle.mac_token.specs.Read.{read_of}
 use Rattle.mac_token.specs.Written.{token_bytes, write_of}
 use Rattle.mac_token.specs.declared.fault.TokenRefusal.{TokenRefusal}
 use Rattle.mac_token.specs.declared.fault.TokenRefusal.TheVariants.{Limit}
-use Rattle.mac_token.specs.declared.form.Form.{Form}
+use Rattle.mac_token.specs.declared.form.TokenForm.{TokenForm}
 use Rattle.mac_token.specs.declared.limits.TheConstants.{TOKEN_MAX}
 use Rattle.mac_token.proofs.Within.{is_within-Decides}
 use Rattle.mac_token.proofs.WrittenLaws.{written_read}
@@ -26,8 +26,7 @@ use Rattle.mac_wire.specs.declared.arrival.Arrival.TheVariants.{Payload}
 use Rattle.mac_wire.specs.declared.reply.Refusal.TheVariants as refusal
 use Rattle.mac_wire.specs.declared.reply.Reply.{Reply}
 use Rattle.mac_wire.specs.declared.reply.Reply.TheVariants as reply
-use Rattle.mac_wire.specs.declared.request.TokenForm.{TokenForm}
-use Rattle.mac_decide.specs.Answer.{refused, told, keyed, form_of, written_reply, token_reply, request_reply, keys_of, answer_of, asked_basis, IsGranted}
+use Rattle.mac_decide.specs.Answer.{refused, told, keyed, written_reply, token_reply, request_reply, keys_of, answer_of, asked_basis, IsGranted}
 use Rattle.mac_decide.specs.Minted.{Minted, minted, add}
 use Rattle.mac_decide.specs.Revocation.{is_listed_read}
 use Rattle.mac_decide.specs.Terms.{Terms}
@@ -52,7 +51,7 @@ short_by_test : (out bytes : List ℕ) (long : Bool) → nat_lt TOKEN_MAX (lengt
 short_by_test out bytes true test e = absurd (cc)
 short_by_test out bytes false test e = (ltb-false TOKEN_MAX (length out) test, cc)
 
-write_of-bytes : (t : TokenParts) (form : Form) (bytes : List ℕ) → write_of t form ≡ Ok bytes → (length (token_bytes t form) ≤ TOKEN_MAX) × (token_bytes t form ≡ bytes)
+write_of-bytes : (t : TokenParts) (form : TokenForm) (bytes : List ℕ) → write_of t form ≡ Ok bytes → (length (token_bytes t form) ≤ TOKEN_MAX) × (token_bytes t form ≡ bytes)
 unfolding write_of
 write_of-bytes t form bytes e = short_by_test (token_bytes t form) bytes (nat_lt TOKEN_MAX (length (token_bytes t form))) refl e
 
@@ -64,11 +63,11 @@ pub token_reply-read : (form : TokenForm) (t : TokenParts) (bytes : List ℕ) �
 token_reply-read form t bytes is e =
     let (u, fits, told) = told-bytes (token_or_limit t) (written_reply form) bytes e in
     let (test, same) = fits_by_test t u (is_within t) refl fits in
-    let (out, wrote, given) = told-bytes (write_of u (form_of form)) reply.Token bytes told in
-    let (short, is_out) = write_of-bytes u (form_of form) out wrote in
-    let whole : token_bytes t (form_of form) ≡ bytes = ap (λ v. token_bytes v (form_of form)) same ∙ is_out ∙ same-bytes out bytes given in
-    let small : length (token_bytes t (form_of form)) ≤ TOKEN_MAX = subst (λ v. length (token_bytes v (form_of form)) ≤ TOKEN_MAX) (sym same) short in
-    subst (λ b. read_of b ≡ Ok t) whole (written_read t (form_of form) is ((is_within-Decides t).0 test) small)
+    let (out, wrote, given) = told-bytes (write_of u form) reply.Token bytes told in
+    let (short, is_out) = write_of-bytes u form out wrote in
+    let whole : token_bytes t form ≡ bytes = ap (λ v. token_bytes v form) same ∙ is_out ∙ same-bytes out bytes given in
+    let small : length (token_bytes t form) ≤ TOKEN_MAX = subst (λ v. length (token_bytes v form) ≤ TOKEN_MAX) (sym same) short in
+    subst (λ b. read_of b ≡ Ok t) whole (written_read t form is ((is_within-Decides t).0 test) small)
 
 -- ---- the bytes of a payload
 

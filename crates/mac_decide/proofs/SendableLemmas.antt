@@ -14,7 +14,7 @@ use Rattle.mac_token.specs.Read.{parts_of, raw_read_of, token_of, token_of_read,
 use Rattle.mac_token.specs.Written.{token_bytes, write_of}
 use Rattle.mac_token.specs.declared.fault.TokenRefusal.{TokenRefusal}
 use Rattle.mac_token.specs.declared.fault.TokenRefusal.TheVariants.{ThirdParty, CaveatLocation, Limit}
-use Rattle.mac_token.specs.declared.form.Form.{Form}
+use Rattle.mac_token.specs.declared.form.TokenForm.{TokenForm}
 use Rattle.mac_token.specs.declared.limits.TheConstants.{LOCATION_MAX, IDENTIFIER_MAX, CAVEAT_MAX, CAVEATS_MAX, TOKEN_MAX}
 use Rattle.mac_wire.specs.Reading.{request_of}
 use Rattle.mac_wire.specs.Reply.{IsReply}
@@ -28,8 +28,7 @@ use Rattle.mac_wire.specs.declared.reply.Reply.TheVariants as reply
 use Rattle.mac_wire.specs.declared.reply.TheConstants.{REPLY_TOKEN_MAX}
 use Rattle.mac_wire.specs.declared.request.Grant.{Grant}
 use Rattle.mac_wire.specs.declared.request.Grant.TheVariants as grant
-use Rattle.mac_wire.specs.declared.request.TokenForm.{TokenForm}
-use Rattle.mac_decide.specs.Answer.{refused, refusal_of, told, keyed, form_of, written_reply, token_reply, verdict_reply, verify_reply, timed, request_reply, asked_reply, reply_of}
+use Rattle.mac_decide.specs.Answer.{refused, refusal_of, told, keyed, written_reply, token_reply, verdict_reply, verify_reply, timed, request_reply, asked_reply, reply_of}
 use Rattle.mac_decide.specs.Minted.{minted, add}
 use Rattle.mac_decide.specs.Prepared.{reply_to_job}
 use Rattle.mac_decide.specs.Reading.{verdict_of}
@@ -59,12 +58,12 @@ short_if false out bytes test e =
     let same : out ≡ bytes = cc in
     rw same at (ltb-false TOKEN_MAX (length out) test)
 
-pub written-short : (t : TokenParts) (form : Form) (bytes : List ℕ) → write_of t form ≡ Ok bytes → length bytes ≤ TOKEN_MAX
+pub written-short : (t : TokenParts) (form : TokenForm) (bytes : List ℕ) → write_of t form ≡ Ok bytes → length bytes ≤ TOKEN_MAX
 unfolding write_of
 written-short t form bytes e = short_if (nat_lt TOKEN_MAX (length (token_bytes t form))) (token_bytes t form) bytes refl e
 
 pub written-sent : (form : TokenForm) (t : TokenParts) → IsReply (written_reply form t)
-written-sent form t = told-sent (write_of t (form_of form)) reply.Token (λ bytes e. written-short t (form_of form) bytes e)
+written-sent form t = told-sent (write_of t form) reply.Token (λ bytes e. written-short t form bytes e)
 
 pub token-sent : (form : TokenForm) (t : TokenParts) → IsReply (token_reply form t)
 token-sent form t = told-sent (token_or_limit t) (written_reply form) (λ u e. written-sent form u)

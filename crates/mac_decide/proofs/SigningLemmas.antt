@@ -5,7 +5,7 @@ use Rattle.mac_token.specs.Push.{with_sig}
 use Rattle.mac_token.specs.RawToken.{TokenParts}
 use Rattle.mac_token.specs.declared.fault.TokenRefusal.{TokenRefusal}
 use Rattle.mac_token.specs.declared.fault.TokenRefusal.TheVariants.{Limit}
-use Rattle.mac_wire.specs.declared.request.TokenForm.{TokenForm}
+use Rattle.mac_token.specs.declared.form.TokenForm.{TokenForm}
 use Rattle.mac_decide.specs.Answer.{refused, refusal_of, token_reply}
 
 -- no limit asks for the signature

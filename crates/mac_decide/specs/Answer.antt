@@ -8,8 +8,7 @@ use Rattle.mac_token.specs.RawToken.{TokenParts}
 use Rattle.mac_token.specs.Limits.{token_or_limit}
 use Rattle.mac_token.specs.Read.{read_of}
 use Rattle.mac_token.specs.Written.{write_of}
-use Rattle.mac_token.specs.declared.form.Form.{Form}
-use Rattle.mac_token.specs.declared.form.Form.TheVariants as forms
+use Rattle.mac_token.specs.declared.form.TokenForm.{TokenForm}
 use Rattle.mac_token.specs.declared.fault.TokenRefusal.{TokenRefusal}
 use Rattle.mac_token.specs.declared.fault.TokenRefusal.TheVariants as token
 use Rattle.mac_wire.specs.Reading.{request_of, key_name_of}
@@ -22,8 +21,6 @@ use Rattle.mac_wire.specs.declared.reply.Reply.{Reply}
 use Rattle.mac_wire.specs.declared.reply.Reply.TheVariants as reply
 use Rattle.mac_wire.specs.declared.request.Grant.{Grant}
 use Rattle.mac_wire.specs.declared.request.Grant.TheVariants as grant
-use Rattle.mac_wire.specs.declared.request.TokenForm.{TokenForm}
-use Rattle.mac_wire.specs.declared.request.TokenForm.TheVariants as asked_form
 use Rattle.mac_decide.specs.Minted.{minted, add}
 use Rattle.mac_decide.specs.Reading.{verdict_of}
 use Rattle.mac_decide.specs.Revocation.{is_arrival_revoked, is_revoked}
@@ -60,16 +57,9 @@ abbrev pub told : {X : Type 0} → Result X TokenRefusal → (X → Reply) → R
 told (Ok x) tell = tell x
 told (Err reason) tell = refused (refusal_of reason)
 
--- the form that is asked for, as a form of a token
-abbrev pub form_of : TokenForm → Form
-form_of asked_form.V1Text = forms.V1Text
-form_of asked_form.V2Binary = forms.V2Binary
-form_of asked_form.V2Json = forms.V2Json
-form_of asked_form.V2Text = forms.V2Text
-
 -- the reply with a token in the form asked for, or Limit where it is too long so
 abbrev pub written_reply : TokenForm → TokenParts → Reply
-written_reply form t = told (write_of t (form_of form)) reply.Token
+written_reply form t = told (write_of t form) reply.Token
 
 -- the reply with a token that was made: Limit where a limit of its parts is passed
 abbrev pub token_reply : TokenForm → TokenParts → Reply

@@ -8,7 +8,7 @@ use Rattle.mac_token.specs.Draft.{DraftParts, IsDraftOf, signed}
 use Rattle.mac_token.specs.Limits.{token_or_limit}
 use Rattle.mac_token.specs.RawToken.{TokenParts}
 use Rattle.mac_token.specs.declared.fault.TokenFault.{TokenFault}
-use Rattle.mac_token.specs.declared.form.Form.{Form}
+use Rattle.mac_token.specs.declared.form.TokenForm.{TokenForm}
 use Rattle.mac_wire.specs.declared.reply.Reply.{Reply}
 use Rattle.mac_wire.specs.declared.reply.Reply.TheVariants.{Token as TokenReply}
 use Rattle.mac_decide.specs.Answer.{reply_of, told}
@@ -40,7 +40,7 @@ verdict_by signature second t x =
     if is_given signature second t then caveats_verdict x 0 t.caveats else BadSignature
 
 -- a draft of this token, or Limit where a part passes its limit; want of memory aside
-abbrev pub Drafted : Form → TokenParts → Result DraftParts TokenFault → Type 0
+abbrev pub Drafted : TokenForm → TokenParts → Result DraftParts TokenFault → Type 0
 Drafted form t (Ok draft) = IsDraftOf form t draft
 Drafted form t (Err fault) = IsFault fault (token_or_limit t)
 

@@ -4,7 +4,6 @@ ghost use Rattle.std.specs.Prelude.{◌≡◌, [], IfOk, length};
 ghost use Rattle.mac_token.specs.Draft.{IsDraftOf};
 ghost use Rattle.mac_token.specs.Push.{with_caveats, with_sig};
 ghost use Rattle.mac_token.specs.RawToken.{TokenParts, token_parts};
-ghost use Rattle.mac_token.specs.declared.form.Form.{Form as PlainForm};
 ghost use Rattle.mac_decide.specs.Answer as answers;
 ghost use Rattle.mac_decide.specs.Folding.{end_of, texts_of};
 ghost use Rattle.mac_decide.specs.Prepared.{Drafted, comes_to};
@@ -12,8 +11,8 @@ ghost use Rattle.mac_decide.specs.Prepared.{Drafted, comes_to};
 use crate::folding::{Folding, Texts};
 use crate::prepared::{Prepared, Purpose, Signing};
 use crate::reply::{refusal_of, refused};
-use mac_token::{Draft, Expected, Form, TokenFault, TokenView};
-use mac_wire::{FieldList, NoMemory, TokenForm};
+use mac_token::{Draft, Expected, TokenFault, TokenForm, TokenView};
+use mac_wire::{FieldList, NoMemory};
 use std::alloc::{AllocError, Global};
 
 /// How many bytes the fields have together.
@@ -27,7 +26,7 @@ fn bytes_in(fields: &FieldList<'_>) -> usize {
 
 /// The draft with these texts behind its caveats.
 fn with_texts(mut draft: Draft, mut texts: Texts<'_>) -> Result<Draft, TokenFault>
-    ensures { (form : PlainForm) (t : TokenParts) → IsDraftOf form t draft
+    ensures { (form : TokenForm) (t : TokenParts) → IsDraftOf form t draft
         → Drafted form (with_caveats t (texts_of texts.entry) t.sig) result }
 {
     while let Some(text) = texts.next() {
@@ -39,7 +38,7 @@ fn with_texts(mut draft: Draft, mut texts: Texts<'_>) -> Result<Draft, TokenFaul
 /// A draft of the token of these parts. Memory is taken once.
 pub(crate) fn draft_of_parts(
     alloc: Global,
-    form: Form,
+    form: TokenForm,
     location: &str,
     identifier: &[u8],
     caveats: &FieldList<'_>,
@@ -58,7 +57,7 @@ pub(crate) fn draft_of_parts(
 /// taken once.
 pub(crate) fn draft_narrowed(
     alloc: Global,
-    form: Form,
+    form: TokenForm,
     token: &TokenView<'_>,
     len: usize,
     caveats: &FieldList<'_>,
@@ -79,10 +78,10 @@ pub(crate) fn draft_to_sign<'a>(
     made: Result<Draft, TokenFault>,
     folding: Folding<'a>,
 ) -> Result<Prepared<'a>, NoMemory>
-    ensures { (asked : TokenForm) (t : TokenParts)
-        → length (end_of folding.entry) ≡ 32 → Drafted (answers.form_of asked) t made
+    ensures { (form : TokenForm) (t : TokenParts)
+        → length (end_of folding.entry) ≡ 32 → Drafted form t made
         → IfOk result (λ p. comes_to p
-        ≡ answers.token_reply asked (with_sig t (end_of folding.entry))) }
+        ≡ answers.token_reply form (with_sig t (end_of folding.entry))) }
 {
     match made {
         Ok(draft) => {

@@ -12,7 +12,7 @@ use crate::context::Context;
 use crate::drafting::{draft_narrowed, draft_of_parts, draft_to_sign};
 use crate::folding::Folding;
 use crate::prepared::Prepared;
-use crate::reply::{form_of, refusal_of, refused};
+use crate::reply::{refusal_of, refused};
 use crate::verifying::prepare_verify;
 use mac_hmac::{RootKey, Sig};
 use mac_token::{TokenFault, TokenView};
@@ -98,7 +98,7 @@ fn prepare_mint<'a>(
     ensures { IfOk result (λ p. comes_to p ≡ answers.token_reply form
         (minted key location.now identifier.now caveats.entry)) }
 {
-    let made = draft_of_parts(alloc, form_of(form), location, identifier, &caveats);
+    let made = draft_of_parts(alloc, form, location, identifier, &caveats);
     draft_to_sign(made, Folding::of_mint(key, identifier, caveats))
 }
 
@@ -130,7 +130,7 @@ fn narrowed_view<'a>(
     ensures { IfOk result (λ p. comes_to p
         ≡ answers.token_reply form (add token.now caveats.entry)) }
 {
-    let made = draft_narrowed(alloc, form_of(form), token, len, &caveats);
+    let made = draft_narrowed(alloc, form, token, len, &caveats);
     let own = Sig::from_bytes(token.sig());
     draft_to_sign(made, Folding::of_caveats(own, caveats))
 }

@@ -15,8 +15,8 @@ use crate::revocation::Revocation;
 use crate::seen::SeenTokens;
 use crate::verdict::Verdict;
 use mac_hmac::Sig;
-use mac_token::{Draft, Form, TokenFault, TokenRefusal};
-use mac_wire::{Arrival, Bytes, Grant, NoMemory, Refusal, Reply, TokenForm, parse_request};
+use mac_token::{Draft, TokenFault, TokenRefusal};
+use mac_wire::{Arrival, Bytes, Grant, NoMemory, Refusal, Reply, parse_request};
 use std::alloc::{AllocError, Global};
 
 /// The reply to a job. Want of memory is an error and never a reply.
@@ -102,18 +102,6 @@ pub(crate) fn signed_reply(alloc: Global, draft: Draft, signature: Sig) -> Resul
         Ok(bytes) => Ok(Reply::Token(Bytes::new(bytes))),
         Err(TokenFault::Refused(reason)) => Ok(refused(refusal_of(reason))),
         Err(TokenFault::Memory) => Err(AllocError),
-    }
-}
-
-/// The form of a token that a request names.
-pub(crate) fn form_of(form: TokenForm) -> Form
-    ensures { result ≡ answers.form_of form }
-{
-    match form {
-        TokenForm::V1Text => Form::V1Text,
-        TokenForm::V2Binary => Form::V2Binary,
-        TokenForm::V2Json => Form::V2Json,
-        TokenForm::V2Text => Form::V2Text,
     }
 }
 

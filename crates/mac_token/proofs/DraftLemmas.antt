@@ -9,8 +9,8 @@ use Rattle.std.proofs.lemmas.List.Concat.{flat_map-append}
 use Rattle.std.proofs.lemmas.List.Elements.{All-take}
 use Rattle.std.proofs.lemmas.List.Folds.{flat_map-map}
 use Rattle.std.specs.Str.{IsUtf8}
-use Rattle.mac_token.specs.declared.form.Form.{Form}
-use Rattle.mac_token.specs.declared.form.Form.TheVariants.{V1Text, V2Binary, V2Json, V2Text}
+use Rattle.mac_token.specs.declared.form.TokenForm.{TokenForm}
+use Rattle.mac_token.specs.declared.form.TokenForm.TheVariants.{V1Text, V2Binary, V2Json, V2Text}
 use Rattle.mac_token.specs.declared.fault.TokenFault.{TokenFault}
 use Rattle.mac_token.specs.declared.fault.TokenFault.TheVariants.{Refused, Memory}
 use Rattle.mac_token.specs.declared.fault.TokenRefusal.TheVariants.{Limit}
@@ -64,7 +64,7 @@ v2_whole t =
 pub json_seen : (t : TokenParts) → v2_of (v2_bytes t) ≡ Some (raw_of t) → json_in (v2_bytes t) ≡ json_bytes t
 json_seen t seen = ap json_read seen ∙ ap json_bytes (parts_of-raw_of t)
 
-whole : (form : Form) (t : TokenParts) → (form ≡ V2Json → IsUtf8 t.location) → (form ≡ V2Json → length t.sig ≡ 32) → in_form form (front_bytes form t ++ end_bytes form t.sig) ≡ token_bytes t form
+whole : (form : TokenForm) (t : TokenParts) → (form ≡ V2Json → IsUtf8 t.location) → (form ≡ V2Json → length t.sig ≡ 32) → in_form form (front_bytes form t ++ end_bytes form t.sig) ≡ token_bytes t form
 unfolding token_bytes
 whole V1Text t text size = ap base64_of (v1_whole t)
 whole V2Binary t text size = v2_whole t
@@ -72,12 +72,12 @@ whole V2Json t text size = ap json_in (v2_whole t) ∙ json_seen t (v2_again (v2
 whole V2Text t text size = ap base64_of (v2_whole t)
 
 -- the bytes with the signature are those of the token with it
-signed-bytes : (form : Form) (t : TokenParts) (d : DraftParts) (sig : List ℕ) → IsDraftOf form t d → (form ≡ V2Json → length sig ≡ 32) → in_form d.form (d.front ++ end_bytes d.form sig) ≡ token_bytes (with_sig t sig) form
+signed-bytes : (form : TokenForm) (t : TokenParts) (d : DraftParts) (sig : List ℕ) → IsDraftOf form t d → (form ≡ V2Json → length sig ≡ 32) → in_form d.form (d.front ++ end_bytes d.form sig) ≡ token_bytes (with_sig t sig) form
 signed-bytes form t d sig is size =
     (λ i. in_form (is.form_is i) (is.written i ++ end_bytes (is.form_is i) sig)) ∙ whole form (with_sig t sig) is.text size
 
 -- what is written with the signature is the token with it
-pub signed-is_written : (form : Form) (t : TokenParts) (d : DraftParts) (sig : List ℕ) → IsDraftOf form t d → (form ≡ V2Json → length sig ≡ 32) → signed d sig ≡ write_of (with_sig t sig) form
+pub signed-is_written : (form : TokenForm) (t : TokenParts) (d : DraftParts) (sig : List ℕ) → IsDraftOf form t d → (form ≡ V2Json → length sig ≡ 32) → signed d sig ≡ write_of (with_sig t sig) form
 unfolding signed write_of
 signed-is_written form t d sig is size =
     ap (λ (text : List ℕ). if nat_lt TOKEN_MAX (length text) then Err Limit else Ok text) (signed-bytes form t d sig is size)
@@ -91,7 +91,7 @@ told-signed d sig bytes result is writes =
     (subst (λ (whole : List ℕ). Writes (in_form d.form whole) result) is writes)
 
 -- and so the token with it is written
-pub writes-signed : (form : Form) (t : TokenParts) (d : DraftParts) (sig bytes : List ℕ) (result : Result (Vec ℕ Global) TokenFault) → IsDraftOf form t d → length sig ≡ 32 → bytes ≡ d.front ++ end_bytes d.form sig
+pub writes-signed : (form : TokenForm) (t : TokenParts) (d : DraftParts) (sig bytes : List ℕ) (result : Result (Vec ℕ Global) TokenFault) → IsDraftOf form t d → length sig ≡ 32 → bytes ≡ d.front ++ end_bytes d.form sig
     → Writes (in_form d.form bytes) result → Writes (token_bytes (with_sig t sig) form) result
 writes-signed form t d sig bytes result is size whole writes =
     subst (λ (text : List ℕ). Writes text result) (ap (in_form d.form) whole ∙ signed-bytes form t d sig is (λ e. size)) writes
@@ -130,7 +130,7 @@ pub more-not_refused : (t : TokenParts) (buffers : List (Vec ℕ Global)) (n : �
 more-not_refused t buffers n buffer caveat fault below is bytes are fit refused =
     first-not_refused t buffers (n + 1) fault are fit (subst (λ (t : TokenParts). IsPushFault t fault) (with_one_more t buffers n buffer caveat below is bytes) refused)
 
-pub draft_more : (form : Form) (t : TokenParts) (buffers : List (Vec ℕ Global)) (n : ℕ) (buffer : Vec ℕ Global) (caveat : List ℕ) (d : DraftParts) → n < length buffers → buffer ≡ get_or buffers n buffer → caveat ≡ buffer.items
+pub draft_more : (form : TokenForm) (t : TokenParts) (buffers : List (Vec ℕ Global)) (n : ℕ) (buffer : Vec ℕ Global) (caveat : List ℕ) (d : DraftParts) → n < length buffers → buffer ≡ get_or buffers n buffer → caveat ≡ buffer.items
     → IsDraftOf form (with_caveats (with_first t buffers n) (caveat ∷ []) []) d → IsDraftOf form (with_first t buffers (n + 1)) d
 draft_more form t buffers n buffer caveat d below is bytes made =
     subst (λ (t : TokenParts). IsDraftOf form t d) (with_one_more t buffers n buffer caveat below is bytes) made

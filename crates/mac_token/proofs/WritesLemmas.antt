@@ -9,7 +9,7 @@ use Rattle.base64.specs.Rfc4648.{unpadded_len}
 use Rattle.mac_token.specs.declared.fault.TokenFault.{TokenFault}
 use Rattle.mac_token.specs.declared.fault.TokenFault.TheVariants.{Refused, Memory}
 use Rattle.mac_token.specs.declared.fault.TokenRefusal.TheVariants.{Transport, Malformed, ThirdParty, Limit, CaveatLocation}
-use Rattle.mac_token.specs.declared.form.Form.{Form}
+use Rattle.mac_token.specs.declared.form.TokenForm.{TokenForm}
 use Rattle.mac_token.specs.declared.limits.TheConstants.{TOKEN_MAX}
 use Rattle.mac_token.specs.Answers.{Answers}
 use Rattle.mac_token.specs.Base64Text.{base64_of}
@@ -29,7 +29,7 @@ bounded_answers bytes (Err (Refused CaveatLocation)) w = absurd w
 bounded_answers bytes (Err Memory) w = tt
 
 -- the same of a token in a form
-pub write_answers : (t : TokenParts) (form : Form) (result : Result (Vec ℕ Global) TokenFault) → Writes (token_bytes t form) result → Answers (λ text. text.items) result (write_of t form)
+pub write_answers : (t : TokenParts) (form : TokenForm) (result : Result (Vec ℕ Global) TokenFault) → Writes (token_bytes t form) result → Answers (λ text. text.items) result (write_of t form)
 unfolding write_of
 write_answers t form result w = bounded_answers (token_bytes t form) result w
 

@@ -2,8 +2,8 @@
 use Rattle.std.proofs.Common.{◌≡◌, ◌≢◌, ℕ, ◌/◌, ◌%◌, ◌<◌, ◌≤◌, List, [], ◌∷◌, length, drop, slice_index, slice_get, Some, Ok, refl, sym, ap, subst, ◌∙◌, arith, inl, inr}
 use Rattle.std.proofs.lemmas.Option.{same_Some}
 use Rattle.base64.specs.GeneralPurpose.{IsBytes}
-use Rattle.mac_token.specs.declared.form.Form.{Form}
-use Rattle.mac_token.specs.declared.form.Form.TheVariants.{V1Text, V2Binary, V2Json, V2Text}
+use Rattle.mac_token.specs.declared.form.TokenForm.{TokenForm}
+use Rattle.mac_token.specs.declared.form.TokenForm.TheVariants.{V1Text, V2Binary, V2Json, V2Text}
 use Rattle.mac_token.specs.declared.limits.TheConstants.{TOKEN_MAX}
 use Rattle.mac_token.specs.declared.v1.key.PacketKey.TheVariants.{Location}
 use Rattle.mac_token.specs.Limits.{IsWithinLimits}
@@ -85,7 +85,7 @@ written_json t token =
     (json_bytes t, carries_itself (json_bytes t) (inr (inr first)), inr (inr (first, JsonText-json_bytes t token)))
 
 -- in each form
-pub written_spells : (t : TokenParts) (form : Form) → IsToken t → IsWithinLimits t → Spells (token_bytes t form) (raw_of t)
+pub written_spells : (t : TokenParts) (form : TokenForm) → IsToken t → IsWithinLimits t → Spells (token_bytes t form) (raw_of t)
 unfolding token_bytes
 written_spells t V1Text token within = written_v1 t token within
 written_spells t V2Binary token within = written_v2 t token
@@ -93,7 +93,7 @@ written_spells t V2Json token within = written_json t token
 written_spells t V2Text token within = written_v2_text t token
 
 -- and so it is read again
-pub written_read : (t : TokenParts) (form : Form) → IsToken t → IsWithinLimits t → length (token_bytes t form) ≤ TOKEN_MAX → read_of (token_bytes t form) ≡ Ok t
+pub written_read : (t : TokenParts) (form : TokenForm) → IsToken t → IsWithinLimits t → length (token_bytes t form) ≤ TOKEN_MAX → read_of (token_bytes t form) ≡ Ok t
 unfolding read_of
 written_read t form token within short =
     ap token_of_read (spelled_read (token_bytes t form) (raw_of t) short (written_spells t form token within)) ∙ token_of-raw_of t within

@@ -5,8 +5,8 @@ use Rattle.std.specs.Str.{IsUtf8}
 use Rattle.mac_token.specs.declared.fault.TokenFault.{TokenFault}
 use Rattle.mac_token.specs.declared.fault.TokenRefusal.{TokenRefusal}
 use Rattle.mac_token.specs.declared.fault.TokenRefusal.TheVariants.{Limit}
-use Rattle.mac_token.specs.declared.form.Form.{Form}
-use Rattle.mac_token.specs.declared.form.Form.TheVariants.{V1Text, V2Binary, V2Json, V2Text}
+use Rattle.mac_token.specs.declared.form.TokenForm.{TokenForm}
+use Rattle.mac_token.specs.declared.form.TokenForm.TheVariants.{V1Text, V2Binary, V2Json, V2Text}
 use Rattle.mac_token.specs.declared.limits.TheConstants.{TOKEN_MAX}
 use Rattle.mac_token.specs.declared.v1.key.PacketKey.TheVariants as key
 use Rattle.mac_token.specs.declared.v2.FieldType.TheVariants as kind
@@ -31,14 +31,14 @@ v2_head location identifier =
     2 ∷ section (written_section (written_location location) identifier)
 
 -- what stands in front of the caveats
-abbrev pub head_bytes : Form → List ℕ → List ℕ → List ℕ
+abbrev pub head_bytes : TokenForm → List ℕ → List ℕ → List ℕ
 head_bytes V1Text = v1_head
 head_bytes V2Binary = v2_head
 head_bytes V2Json = v2_head
 head_bytes V2Text = v2_head
 
 -- a caveat: a packet, or a section
-abbrev pub caveat_bytes : Form → List ℕ → List ℕ
+abbrev pub caveat_bytes : TokenForm → List ℕ → List ℕ
 caveat_bytes V1Text caveat = packet (caveat_field caveat)
 caveat_bytes V2Binary caveat = section (written_section None caveat)
 caveat_bytes V2Json caveat = section (written_section None caveat)
@@ -53,14 +53,14 @@ abbrev pub v2_end : List ℕ → List ℕ
 v2_end sig = end_mark ++ field kind.Signature sig
 
 -- what stands behind the caveats
-abbrev pub end_bytes : Form → List ℕ → List ℕ
+abbrev pub end_bytes : TokenForm → List ℕ → List ℕ
 end_bytes V1Text = v1_end
 end_bytes V2Binary = v2_end
 end_bytes V2Json = v2_end
 end_bytes V2Text = v2_end
 
 -- what is written of a token before its signature
-abbrev pub front_bytes : Form → TokenParts → List ℕ
+abbrev pub front_bytes : TokenForm → TokenParts → List ℕ
 front_bytes form t =
     head_bytes form t.location t.identifier ++ flat_map (caveat_bytes form) t.caveats
 
@@ -74,7 +74,7 @@ abbrev pub json_in : List ℕ → List ℕ
 json_in bytes = json_read (v2_of bytes)
 
 -- packets or V2 binary, bare, as base64 text or in JSON
-abbrev pub in_form : Form → List ℕ → List ℕ
+abbrev pub in_form : TokenForm → List ℕ → List ℕ
 in_form V1Text bytes = base64_of bytes
 in_form V2Binary bytes = bytes
 in_form V2Json bytes = json_in bytes
@@ -82,12 +82,12 @@ in_form V2Text bytes = base64_of bytes
 
 -- a draft: its form, how many caveats it has, and what is written
 pub record DraftParts : Type 0 where
-  pub form : Form
+  pub form : TokenForm
   pub caveats : ℕ
   pub front : List ℕ
 
 -- the draft is of this token, whatever the token's signature
-pub record IsDraftOf (form : Form) (t : TokenParts) (d : DraftParts) : Type 0 where
+pub record IsDraftOf (form : TokenForm) (t : TokenParts) (d : DraftParts) : Type 0 where
   pub form_is : d.form ≡ form
   pub count : d.caveats ≡ length t.caveats
   pub written : d.front ≡ front_bytes form t
@@ -96,7 +96,7 @@ pub record IsDraftOf (form : Form) (t : TokenParts) (d : DraftParts) : Type 0 wh
 
 -- what a call that writes a draft answers: one of this token, or Limit where a part passes its
 -- limit; or memory was refused, for a token within the limits
-abbrev pub Drafts : Form → TokenParts → Result DraftParts TokenFault → Type 0
+abbrev pub Drafts : TokenForm → TokenParts → Result DraftParts TokenFault → Type 0
 Drafts form t (Ok d) = IsDraftOf form t d
 Drafts form t (Err fault) = IsPushFault t fault
 

@@ -8,10 +8,9 @@ ghost use Rattle.mac_token.specs.Push.{with_caveats, with_sig};
 ghost use Rattle.mac_token.specs.RawToken.{TokenParts, token_parts};
 ghost use Rattle.mac_token.specs.Writes.{Writes};
 ghost use Rattle.mac_token.specs.Written.{token_bytes, write_of};
-ghost use Rattle.mac_token.specs.declared.form.Form.{Form as PlainForm};
 
 use crate::fault::{NoMemory, TokenFault, TokenRefusal};
-use crate::form::Form;
+use crate::form::TokenForm;
 use crate::limits::{CAVEAT_MAX, CAVEATS_MAX, TOKEN_MAX};
 use crate::token::{Token, is_within};
 use crate::writing::{as_bare, as_json, as_text};
@@ -19,13 +18,13 @@ use crate::{v1, v2};
 use std::alloc::Global;
 use std::marker::Model;
 
-impl Form {
+impl TokenForm {
     /// Room for so much, with the signature: at least what is written up to it, within a token's
     /// limit.
     fn room(self, location: &str, identifier: &[u8], expected: &Expected) -> usize {
         let (whole, each) = match self {
-            Form::V1Text => (v1::BESIDE_PARTS, v1::BESIDE_CAVEAT),
-            Form::V2Binary | Form::V2Json | Form::V2Text => (v2::BESIDE_PARTS, v2::BESIDE_CAVEAT),
+            Self::V1Text => (v1::BESIDE_PARTS, v1::BESIDE_CAVEAT),
+            Self::V2Binary | Self::V2Json | Self::V2Text => (v2::BESIDE_PARTS, v2::BESIDE_CAVEAT),
         };
         let caveats = expected.caveats.saturating_mul(each);
         let parts = location.len().saturating_add(identifier.len());
@@ -42,8 +41,8 @@ impl Form {
             ≡ out.old.items ++ head_bytes self location.now identifier.now) }
     {
         match self {
-            Form::V1Text => v1::put_head(out, location, identifier),
-            Form::V2Binary | Form::V2Json | Form::V2Text => v2::put_head(out, location, identifier),
+            Self::V1Text => v1::put_head(out, location, identifier),
+            Self::V2Binary | Self::V2Json | Self::V2Text => v2::put_head(out, location, identifier),
         }
     }
 
@@ -52,8 +51,8 @@ impl Form {
         ensures { OnOk result (out.new.items ≡ out.old.items ++ caveat_bytes self caveat.now) }
     {
         match self {
-            Form::V1Text => v1::put_caveat(out, caveat),
-            Form::V2Binary | Form::V2Json | Form::V2Text => v2::put_caveat(out, caveat),
+            Self::V1Text => v1::put_caveat(out, caveat),
+            Self::V2Binary | Self::V2Json | Self::V2Text => v2::put_caveat(out, caveat),
         }
     }
 
@@ -62,8 +61,8 @@ impl Form {
         ensures { OnOk result (out.new.items ≡ out.old.items ++ end_bytes self sig.now) }
     {
         match self {
-            Form::V1Text => v1::put_signature(out, sig),
-            Form::V2Binary | Form::V2Json | Form::V2Text => v2::put_signature(out, sig),
+            Self::V1Text => v1::put_signature(out, sig),
+            Self::V2Binary | Self::V2Json | Self::V2Text => v2::put_signature(out, sig),
         }
     }
 
@@ -73,9 +72,9 @@ impl Form {
         ensures { Writes (in_form self bytes.items) result }
     {
         match self {
-            Form::V1Text | Form::V2Text => as_text(alloc, &bytes),
-            Form::V2Binary => as_bare(bytes),
-            Form::V2Json => as_json(alloc, &bytes),
+            Self::V1Text | Self::V2Text => as_text(alloc, &bytes),
+            Self::V2Binary => as_bare(bytes),
+            Self::V2Json => as_json(alloc, &bytes),
         }
     }
 }
@@ -100,7 +99,7 @@ fn bytes_in(caveats: &[Vec<u8>]) -> usize {
 /// A token as it is written, all but its signature. Contracts see it as a `DraftParts`.
 #[derive(Drop)]
 pub struct Draft {
-    form: Form,
+    form: TokenForm,
     caveats: usize,
     front: Vec<u8>,
 }
@@ -118,7 +117,7 @@ impl Draft {
     /// tested before memory is taken. Its memory is taken at once, as far as it was expected.
     pub fn begin(
         alloc: Global,
-        form: Form,
+        form: TokenForm,
         location: &str,
         identifier: &[u8],
         expected: Expected,
@@ -138,7 +137,7 @@ impl Draft {
     }
 
     /// A draft of a token.
-    pub(crate) fn of(alloc: Global, form: Form, token: &Token) -> Result<Draft, TokenFault>
+    pub(crate) fn of(alloc: Global, form: TokenForm, token: &Token) -> Result<Draft, TokenFault>
         ensures ok { IfOk result (IsDraftOf form (with_sig token.now [])) }
         ensures err { IfErr result (λ fault. fault ≡ TokenFault.Memory) }
     {
@@ -157,7 +156,7 @@ impl Draft {
     /// The draft with one caveat more. `Limit` where the caveat or the number of caveats passes its
     /// limit, tested before anything is written.
     pub fn push(self, caveat: &[u8]) -> Result<Draft, TokenFault>
-        ensures { (form : PlainForm) (t : TokenParts) → IsDraftOf form t self
+        ensures { (form : TokenForm) (t : TokenParts) → IsDraftOf form t self
             → Drafts form (with_caveats t (caveat.now ∷ []) t.sig) result }
     {
         if self.caveats >= CAVEATS_MAX || caveat.len() > CAVEAT_MAX {
@@ -180,9 +179,9 @@ impl Draft {
     /// may be. A text and JSON take memory of their own.
     pub fn sign(self, alloc: Global, sig: [u8; 32]) -> Result<Vec<u8>, TokenFault>
         ensures exact { Answers (λ text. text.items) result (signed self sig) }
-        ensures writes { (form : PlainForm) (t : TokenParts) → IsDraftOf form t self
+        ensures writes { (form : TokenForm) (t : TokenParts) → IsDraftOf form t self
             → Writes (token_bytes (with_sig t sig) form) result }
-        ensures written { (form : PlainForm) (t : TokenParts) → IsDraftOf form t self
+        ensures written { (form : TokenForm) (t : TokenParts) → IsDraftOf form t self
             → Answers (λ text. text.items) result (write_of (with_sig t sig) form) }
     {
         let Draft {

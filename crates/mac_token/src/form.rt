@@ -1,11 +1,11 @@
 //! The forms in which a token is written.
 
 ghost use Rattle.std.specs.Prelude.{◌≡◌};
-ghost use Rattle.mac_token.specs.Form.{form_number};
+ghost use Rattle.mac_token.specs.Form.{form_code};
 
 /// A form in which a token is written.
-#[derive(Clone, Copy)]
-pub enum Form {
+#[derive(Clone, Copy, Debug, PartialEq, Eq)]
+pub enum TokenForm {
     /// Base64 text of V1 packets.
     V1Text,
     /// V2 binary, bare.
@@ -16,16 +16,16 @@ pub enum Form {
     V2Text,
 }
 
-impl Form {
+impl TokenForm {
     /// The form's number on the wire, 1 to 4.
-    pub fn number(self) -> u8
-        ensures { result ≡ form_number self }
+    pub fn code(self) -> u8
+        ensures { result ≡ form_code self }
     {
         match self {
-            Form::V1Text => 1,
-            Form::V2Binary => 2,
-            Form::V2Json => 3,
-            Form::V2Text => 4,
+            TokenForm::V1Text => 1,
+            TokenForm::V2Binary => 2,
+            TokenForm::V2Json => 3,
+            TokenForm::V2Text => 4,
         }
     }
 }

@@ -5,7 +5,6 @@ ghost use Rattle.std.specs.Str.{IsUtf8};
 ghost use Rattle.base64.specs.Engines.{standard, standard_no_pad, url_safe, url_safe_no_pad};
 ghost use Rattle.base64.specs.GeneralPurpose.{IsBytes, engine_symbols};
 ghost use Rattle.mac_token.specs.declared.fault.TokenRefusal.{TokenRefusal};
-ghost use Rattle.mac_token.specs.declared.form.Form.{Form};
 ghost use Rattle.mac_token.specs.declared.limits.TheConstants.{LOCATION_MAX, IDENTIFIER_MAX, CAVEAT_MAX, CAVEATS_MAX, TOKEN_MAX};
 ghost use Rattle.mac_token.specs.Base64Reading.{base64_bytes};
 ghost use Rattle.mac_token.specs.Base64Text.{IsBase64Of, base64_of, plain_letters, url_safe_letters};
@@ -24,7 +23,7 @@ ghost use Rattle.mac_token.specs.V2Whole.{v2_of};
 ghost use Rattle.mac_token.specs.Varint.{varint, IsVarint, IsLeb128, number_of};
 ghost use Rattle.mac_token.specs.Written.{token_bytes, write_of};
 
-use crate::form::Form as TokenForm;
+use crate::form::TokenForm;
 use crate::token::Token;
 
 /// Bytes spell at most one raw token, over all forms.
@@ -34,13 +33,13 @@ pub fn spells_one()
 
 /// What is written for a token spells it, in each form.
 pub fn written_spells()
-    ensures { (t : TokenParts) (form : Form) → IsToken t → IsWithinLimits t
+    ensures { (t : TokenParts) (form : TokenForm) → IsToken t → IsWithinLimits t
         → Spells (token_bytes t form) (raw_of t) }
 {}
 
 /// What was written is read again as the same token, unless it is longer than a token may be.
 pub fn written_is_read_again()
-    ensures { (t : TokenParts) (form : Form) → IsToken t → IsWithinLimits t
+    ensures { (t : TokenParts) (form : TokenForm) → IsToken t → IsWithinLimits t
         → length (token_bytes t form) ≤ TOKEN_MAX → read_of (token_bytes t form) ≡ Ok t }
 {}
 
@@ -54,8 +53,8 @@ pub fn binary_is_read_again()
 /// A draft of a token is, once it is signed, what is written for the token with that signature; in
 /// JSON by one of 32 bytes.
 pub fn signed_draft_is_written()
-    ensures { (form : Form) (t : TokenParts) (d : DraftParts) (sig : List ℕ)
-        → IsDraftOf form t d → (form ≡ Form.V2Json → length sig ≡ 32)
+    ensures { (form : TokenForm) (t : TokenParts) (d : DraftParts) (sig : List ℕ)
+        → IsDraftOf form t d → (form ≡ TokenForm.V2Json → length sig ≡ 32)
         → signed d sig ≡ write_of (with_sig t sig) form }
 {}
 

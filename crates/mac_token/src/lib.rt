@@ -26,7 +26,7 @@ mod writing;
 
 pub use draft::{Draft, Expected};
 pub use fault::{NoMemory, TokenFault, TokenRefusal};
-pub use form::Form;
+pub use form::TokenForm;
 pub use limits::{CAVEAT_MAX, CAVEATS_MAX, IDENTIFIER_MAX, LOCATION_MAX, TOKEN_MAX};
 pub use raw::{RawCaveat, RawToken};
 pub use reading::{bare, read, read_bare, read_raw};

@@ -10,7 +10,7 @@ ghost use Rattle.mac_token.specs.Writes.{Writes};
 
 use crate::draft::Draft;
 use crate::fault::{TokenFault, TokenRefusal};
-use crate::form::Form;
+use crate::form::TokenForm;
 use crate::limits::TOKEN_MAX;
 use crate::token::Token;
 use crate::{base64_text, v1, v2, v2_json};
@@ -64,25 +64,25 @@ pub(crate) fn as_json(alloc: Global, binary: &[u8]) -> Result<Vec<u8>, TokenFaul
 /// Whether the token in this form is no longer than a token may be, before it is written; of JSON
 /// that isn't known then.
 #[tactic(auto, unfolding(crate::specs::Written::token_bytes))]
-fn may_fit(token: &Token, form: Form) -> bool
+fn may_fit(token: &Token, form: TokenForm) -> bool
     ensures long { result ≡ false → TOKEN_MAX < length (token_bytes token.now form) }
-    ensures short { result ≡ true → form ≢ Form.V2Json
+    ensures short { result ≡ true → form ≢ TokenForm.V2Json
         → length (token_bytes token.now form) ≤ TOKEN_MAX }
 {
     match form {
-        Form::V1Text => text_fits(v1::written_len(token)),
-        Form::V2Binary => v2::written_len(token) <= TOKEN_MAX,
-        Form::V2Json => true,
-        Form::V2Text => text_fits(v2::written_len(token)),
+        TokenForm::V1Text => text_fits(v1::written_len(token)),
+        TokenForm::V2Binary => v2::written_len(token) <= TOKEN_MAX,
+        TokenForm::V2Json => true,
+        TokenForm::V2Text => text_fits(v2::written_len(token)),
     }
 }
 
 /// The token in this form, in time linear in what is written. `Limit` where it would be longer than
 /// a token may be; forms 1, 2 and 4 take no memory then.
-pub fn write(alloc: Global, token: &Token, form: Form) -> Result<Vec<u8>, TokenFault>
+pub fn write(alloc: Global, token: &Token, form: TokenForm) -> Result<Vec<u8>, TokenFault>
     ensures written { Writes (token_bytes token.now form) result }
     ensures answer { Answers (λ text. text.items) result (write_of token.now form) }
-    ensures memory { result ≡ Err TokenFault.Memory → form ≢ Form.V2Json
+    ensures memory { result ≡ Err TokenFault.Memory → form ≢ TokenForm.V2Json
         → length (token_bytes token.now form) ≤ TOKEN_MAX }
 {
     if !may_fit(token, form) {

@@ -6,12 +6,13 @@ use Rattle.std.specs.Int.{w64, to_be_bytes}
 use Rattle.std.proofs.lemmas.Bool.{eqb-true}
 use Rattle.std.proofs.lemmas.List.{append-nil}
 use Rattle.std.proofs.lemmas.List.Elements.{All-from_recursion, recursion_from_All}
+use Rattle.mac_token.specs.Form.{form_code}
+use Rattle.mac_token.specs.declared.form.TokenForm.{TokenForm}
 use Rattle.mac_wire.specs.declared.request.Grant.{Grant}
 use Rattle.mac_wire.specs.declared.request.Grant.TheVariants as grant
-use Rattle.mac_wire.specs.declared.request.TokenForm.{TokenForm}
 use Rattle.mac_wire.specs.declared.request.Request.{Request}
 use Rattle.mac_wire.specs.declared.request.TheConstants.{FACTS_MAX}
-use Rattle.mac_wire.specs.Request.{Asked, mint, attenuate, verify, verify_now, IsBytes, form_code, grant_kind, short_field, long_field, counted_fields, payload_of, IsRequest, Asks, asked, key_of}
+use Rattle.mac_wire.specs.Request.{Asked, mint, attenuate, verify, verify_now, IsBytes, grant_kind, short_field, long_field, counted_fields, payload_of, IsRequest, Asks, asked, key_of}
 use Rattle.mac_wire.specs.Reading.{number_at, short_field_at, long_field_at, text_field_at, counted_list_at, form_at, mint_of, attenuate_of, verify_of, verify_now_of, request_of, name_at, mint_name_at, key_name_of}
 use Rattle.mac_wire.proofs.Spelling.{bind_some, chosen, Takes, Takes-then, Takes-all, wide64, number_takes, number_again, short_takes, short_again, long_takes, long_again, text_takes, text_again, counted_take, counted_again, form_takes, form_again, some_is}
 

@@ -8,9 +8,10 @@ use Rattle.std.proofs.lemmas.List.{take_at, drop_at, take-append-drop, length-ap
 use Rattle.std.proofs.lemmas.List.Concat.{flat_map-cons}
 use Rattle.std.proofs.lemmas.Nat.{be_bytes_2, be_bytes_8, from_be_bytes-to_be_bytes_2, from_be_bytes-to_be_bytes_8}
 use Rattle.std.proofs.lemmas.Str.{IsUtf8-from_is_utf8, is_utf8-from_IsUtf8}
-use Rattle.mac_wire.specs.declared.request.TokenForm.{TokenForm}
-use Rattle.mac_wire.specs.declared.request.TokenForm.TheVariants as form
-use Rattle.mac_wire.specs.Request.{IsBytes, form_code, short_field, long_field, counted_fields}
+use Rattle.mac_token.specs.Form.{form_code}
+use Rattle.mac_token.specs.declared.form.TokenForm.{TokenForm}
+use Rattle.mac_token.specs.declared.form.TokenForm.TheVariants as form
+use Rattle.mac_wire.specs.Request.{IsBytes, short_field, long_field, counted_fields}
 use Rattle.mac_wire.specs.Reading.{◌>>=◌, bytes_at, byte_at, number_at, short_field_at, long_field_at, text_field_at, list_at, counted_list_at, form_of, form_at, at_end}
 
 IsBytes-drop : (n : ℕ) (bytes : List ℕ) → IsBytes bytes → IsBytes (drop n bytes)

@@ -4,14 +4,14 @@
 use Rattle.std.specs.Prelude.{ℕ, zero, suc, List, [], ◌∷◌, length, take, drop, Option, Some, None, nat_lt, nat_le, ◌==◌, if◌then◌else◌}
 use Rattle.std.specs.Int.{Width, w16, w64, byte_len, from_be_bytes}
 use Rattle.std.specs.Str.{is_utf8}
+use Rattle.mac_token.specs.declared.form.TokenForm.{TokenForm}
+use Rattle.mac_token.specs.declared.form.TokenForm.TheVariants as form
 use Rattle.mac_wire.specs.declared.request.Grant.{Grant}
 use Rattle.mac_wire.specs.declared.request.Grant.TheVariants as grant
 use Rattle.mac_wire.specs.declared.reply.ReplyKind.{ReplyKind}
 use Rattle.mac_wire.specs.declared.reply.ReplyKind.TheVariants as reply_kind
 use Rattle.mac_wire.specs.declared.request.RequestKind.{RequestKind}
 use Rattle.mac_wire.specs.declared.request.RequestKind.TheVariants as request_kind
-use Rattle.mac_wire.specs.declared.request.TokenForm.{TokenForm}
-use Rattle.mac_wire.specs.declared.request.TokenForm.TheVariants as form
 use Rattle.mac_wire.specs.declared.request.TheConstants.{FACTS_MAX}
 use Rattle.mac_wire.specs.declared.version.Version.{Version}
 use Rattle.mac_wire.specs.declared.version.Version.TheVariants as version

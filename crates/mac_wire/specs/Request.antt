@@ -3,10 +3,10 @@ use Rattle.std.specs.Prelude.{◌≡◌, ℕ, ◌<◌, ◌≤◌, ◌^◌, List,
 use Rattle.std.specs.Int.{w16, w64, to_be_bytes}
 use Rattle.std.specs.List.{flat_map}
 use Rattle.std.specs.Str.{IsUtf8}
+use Rattle.mac_token.specs.Form.{form_code}
+use Rattle.mac_token.specs.declared.form.TokenForm.{TokenForm}
 use Rattle.mac_wire.specs.declared.request.Grant.{Grant}
 use Rattle.mac_wire.specs.declared.request.Grant.TheVariants as grant
-use Rattle.mac_wire.specs.declared.request.TokenForm.{TokenForm}
-use Rattle.mac_wire.specs.declared.request.TokenForm.TheVariants as form
 use Rattle.mac_wire.specs.declared.request.Request.{Request}
 use Rattle.mac_wire.specs.declared.request.Request.TheVariants as request
 use Rattle.mac_wire.specs.declared.request.RequestKind.{RequestKind}
@@ -53,13 +53,6 @@ abbrev pub request_word : RequestKind → List ℕ
 request_word request_kind.Mint = codes "mint"
 request_word request_kind.Attenuate = codes "attenuate"
 request_word request_kind.Verify = codes "verify"
-
--- the byte of a form
-abbrev pub form_code : TokenForm → ℕ
-form_code form.V1Text = 1
-form_code form.V2Binary = 2
-form_code form.V2Json = 3
-form_code form.V2Text = 4
 
 -- the number of the verify at the clock that asks to be told so
 abbrev pub grant_kind : Grant → ℕ

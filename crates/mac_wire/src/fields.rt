@@ -6,7 +6,7 @@ ghost use Rattle.std.specs.Option.{option_map};
 ghost use Rattle.std.specs.Str.{is_utf8};
 ghost use Rattle.mac_wire.specs.Reading.{byte_at, bytes_at, number_at, short_field_at, long_field_at, text_field_at, form_of, form_at};
 
-use crate::request::TokenForm;
+use mac_token::TokenForm;
 
 /// That many bytes.
 fn front(length: usize, bytes: &[u8]) -> Option<(&[u8], &[u8])>

@@ -35,6 +35,7 @@ pub use cut::{Cut, next_frame};
 pub use device::{DeviceFault, Sink, Source};
 pub use field_list::{FieldList, OwnedFields};
 pub use frame::{FeedFault, FrameReader, opened};
+pub use mac_token::TokenForm;
 pub use mem_sink::MemSink;
 pub use mem_source::MemSource;
 pub use parse::{key_name, parse_request, request_kind};
@@ -42,7 +43,7 @@ pub use reader_source::ReaderSource;
 pub use reply::{
     REPLY_TOKEN_MAX, Refusal, Reply, ReplyKind, append_reply, reply_bytes, reply_kind,
 };
-pub use request::{FACTS_MAX, Grant, Request, RequestKind, TokenForm};
+pub use request::{FACTS_MAX, Grant, Request, RequestKind};
 pub use send::{GATHERED, send_all};
 pub use session::Session;
 pub use unsent::Unsent;

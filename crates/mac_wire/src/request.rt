@@ -1,9 +1,10 @@
 //! What a client asks.
 
 ghost use Rattle.std.specs.Prelude.{◌≡◌};
-ghost use Rattle.mac_wire.specs.Request.{form_code, request_code, request_word};
+ghost use Rattle.mac_wire.specs.Request.{request_code, request_word};
 
 use crate::field_list::FieldList;
+use mac_token::TokenForm;
 
 /// The greatest number of facts in a verify request.
 pub const FACTS_MAX: u8 = 128;
@@ -18,33 +19,6 @@ pub(crate) const VERIFY: u8 = 3;
 pub(crate) const VERIFY_NOW: u8 = 4;
 
 pub(crate) const VERIFY_OWNER: u8 = 5;
-
-/// The form that a token is asked for in.
-#[derive(Clone, Copy, PartialEq, Eq)]
-pub enum TokenForm {
-    /// Base64 text of version 1 packets.
-    V1Text,
-    /// Version 2 binary.
-    V2Binary,
-    /// Version 2 JSON.
-    V2Json,
-    /// Base64 text of version 2 binary.
-    V2Text,
-}
-
-impl TokenForm {
-    /// The form's number on the wire.
-    pub fn code(self) -> u8
-        ensures { result ≡ form_code self }
-    {
-        match self {
-            TokenForm::V1Text => 1,
-            TokenForm::V2Binary => 2,
-            TokenForm::V2Json => 3,
-            TokenForm::V2Text => 4,
-        }
-    }
-}
 
 /// What a verify at the daemon's clock asks to be told where it is granted.
 #[derive(Clone, Copy, PartialEq, Eq)]

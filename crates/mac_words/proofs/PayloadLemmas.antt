@@ -10,10 +10,11 @@ use Rattle.std.specs.declared.string.String.{String}
 use Rattle.std.specs.declared.vec.Vec.{Vec}
 use Rattle.std.proofs.lemmas.Bool.{ltb-false, le-ltb, lt-ltb}
 use Rattle.std.proofs.lemmas.List.Elements.{All-cons, All-nil}
-use Rattle.mac_wire.specs.Request.{Asked, AreFields, IsRequest, payload_of, form_code, short_field, long_field, counted_fields, mint, attenuate, verify}
+use Rattle.mac_token.specs.Form.{form_code}
+use Rattle.mac_token.specs.declared.form.TokenForm.{TokenForm}
+use Rattle.mac_wire.specs.Request.{Asked, AreFields, IsRequest, payload_of, short_field, long_field, counted_fields, mint, attenuate, verify}
 use Rattle.mac_wire.specs.declared.arrival.TheConstants.{FRAME_MAX}
 use Rattle.mac_wire.specs.declared.request.TheConstants.{FACTS_MAX}
-use Rattle.mac_wire.specs.declared.request.TokenForm.{TokenForm}
 use Rattle.mac_words.specs.Payload.{texts_of, name_fault, text_fault, list_fault, field_fault, first_fault, GivesPayload, IsFramed}
 use Rattle.mac_words.specs.declared.fault.FieldFault.{FieldFault}
 use Rattle.mac_words.proofs.Appends.{three, five}

@@ -5,12 +5,12 @@ use Rattle.mac_keys.specs.KeyTable.{Table, table_of}
 use Rattle.mac_token.specs.RawToken.{RawParts}
 use Rattle.mac_token.specs.Read.{raw_read_of}
 use Rattle.mac_token.specs.declared.fault.TokenRefusal.{TokenRefusal}
+use Rattle.mac_token.specs.declared.form.TokenForm.{TokenForm}
+use Rattle.mac_token.specs.declared.form.TokenForm.TheVariants as form
 use Rattle.mac_wire.specs.Request.{Asked, payload_of}
 use Rattle.mac_wire.specs.declared.arrival.Arrival.TheVariants as arrival
 use Rattle.mac_wire.specs.declared.reply.Reply.{Reply}
 use Rattle.mac_wire.specs.declared.reply.Reply.TheVariants as reply
-use Rattle.mac_wire.specs.declared.request.TokenForm.{TokenForm}
-use Rattle.mac_wire.specs.declared.request.TokenForm.TheVariants as form
 use Rattle.mac_words.specs.Inspected.{IsInspected}
 use Rattle.mac_words.specs.Payload.{first_fault}
 use Rattle.mac_words.specs.ReplyText.{refusal_text, reply_text}

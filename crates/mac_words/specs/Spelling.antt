@@ -1,8 +1,8 @@
 -- What a token's first byte says of its form.
 use Rattle.std.specs.Prelude.{ℕ, ◌==◌, if◌then◌else◌, List, codes, slice_index, Option, Some, None}
 use Rattle.std.specs.Str.{bytes_eq}
-use Rattle.mac_wire.specs.declared.request.TokenForm.{TokenForm}
-use Rattle.mac_wire.specs.declared.request.TokenForm.TheVariants as form
+use Rattle.mac_token.specs.declared.form.TokenForm.{TokenForm}
+use Rattle.mac_token.specs.declared.form.TokenForm.TheVariants as form
 use Rattle.mac_words.specs.declared.spelled.Spelling.{Spelling}
 use Rattle.mac_words.specs.declared.spelled.Spelling.TheVariants as spelled
 

@@ -4,8 +4,8 @@ ghost use Rattle.std.specs.Prelude.{◌≡◌, IfOk, ℕ, nat_lt, length, string
 ghost use Rattle.std.specs.List.{list_any};
 ghost use Rattle.mac_decide.specs.Answer.{full_answer};
 ghost use Rattle.mac_wire.specs.Reply.{IsReply};
+ghost use Rattle.mac_token.specs.declared.form.TokenForm.{TokenForm};
 ghost use Rattle.mac_wire.specs.Request.{IsRequest, attenuate, mint, payload_of, verify};
-ghost use Rattle.mac_wire.specs.declared.request.TokenForm.{TokenForm};
 ghost use Rattle.mac_words.specs.Payload.{GivesPayload, texts_of, name_fault, text_fault};
 ghost use Rattle.mac_words.specs.Payload.{list_fault, facts_fault, field_fault, GivesCounted, IsFramed};
 

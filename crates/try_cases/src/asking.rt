@@ -3,8 +3,7 @@
 use crate::case::{Case, CaseFault};
 use mac_decide::{Asking, Revocation, SeenTokens, answer_request};
 use mac_keys::Keys;
-use mac_token::Form;
-use mac_wire::{Reply, Request, TokenForm};
+use mac_wire::{Reply, Request};
 
 /// The reply to a request under these keys.
 pub(crate) fn ask<'a>(
@@ -36,15 +35,5 @@ pub(crate) fn say_refused(case: &mut Case<'_>, reply: &Reply) {
             case.say_number(why.code() as u64);
         }
         _ => case.say("another reply"),
-    }
-}
-
-/// The form as a request names it.
-pub(crate) fn asked_form(form: Form) -> TokenForm {
-    match form {
-        Form::V1Text => TokenForm::V1Text,
-        Form::V2Binary => TokenForm::V2Binary,
-        Form::V2Json => TokenForm::V2Json,
-        Form::V2Text => TokenForm::V2Text,
     }
 }

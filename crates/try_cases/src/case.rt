@@ -1,6 +1,6 @@
 //! A case: the words that are left to read, and what it comes to.
 
-use mac_token::Form;
+use mac_token::TokenForm;
 use std::alloc::{AllocError, Global};
 
 /// As many events or calls as a case may have.
@@ -110,15 +110,15 @@ impl<'a> Case<'a> {
     }
 
     /// The form that the next word numbers.
-    pub(crate) fn form(&mut self) -> Form {
+    pub(crate) fn form(&mut self) -> TokenForm {
         match self.word().as_bytes() {
-            b"1" => Form::V1Text,
-            b"2" => Form::V2Binary,
-            b"3" => Form::V2Json,
-            b"4" => Form::V2Text,
+            b"1" => TokenForm::V1Text,
+            b"2" => TokenForm::V2Binary,
+            b"3" => TokenForm::V2Json,
+            b"4" => TokenForm::V2Text,
             _ => {
                 self.fail(CaseFault::NoCase);
-                Form::V1Text
+                TokenForm::V1Text
             }
         }
     }

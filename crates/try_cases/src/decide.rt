@@ -2,7 +2,7 @@
 
 ghost use Rattle.mac_wire.specs.Reply.{IsReply};
 
-use crate::asking::{ask, asked_form, say_refused};
+use crate::asking::{ask, say_refused};
 use crate::case::{Case, CaseFault};
 use crate::keys::table;
 use crate::token::{say_parts, token_of};
@@ -15,7 +15,7 @@ use mac_decide::{
 };
 use mac_hmac::{RootKey, root_key};
 use mac_keys::Keys;
-use mac_token::{Form, Token};
+use mac_token::{Token, TokenForm};
 use mac_wire::{Arrival, Bytes, FieldList, NoMemory, Reply, Request, Version, reply_bytes};
 use std::alloc::Global;
 
@@ -103,7 +103,7 @@ fn lack(case: &mut Case<'_>) {
 
 /// A token with caveats added; or the refusal.
 fn narrowed(case: &mut Case<'_>) {
-    let form = asked_form(case.form());
+    let form = case.form();
     let token = case.bytes();
     let caveats = case.lists();
     let caveats = case.counted_lists(&caveats);
@@ -252,7 +252,7 @@ fn agreement(case: &mut Case<'_>) {
 /// The reply to a mint of these parts under the key.
 fn minted(
     case: &mut Case<'_>,
-    form: Form,
+    form: TokenForm,
     key: &RootKey,
     location: &str,
     identifier: &[u8],
@@ -266,7 +266,7 @@ fn minted(
 /// The same with counted caveats.
 fn minted_counted<'a>(
     case: &mut Case<'_>,
-    form: Form,
+    form: TokenForm,
     key: &RootKey,
     location: &'a str,
     identifier: &'a [u8],
@@ -281,7 +281,7 @@ fn minted_counted<'a>(
         second: None,
     };
     let request = Request::Mint {
-        form: asked_form(form),
+        form,
         key: b"",
         location,
         identifier,

@@ -2,7 +2,7 @@
 
 use crate::case::{Case, CaseFault};
 use mac_token::{
-    Form, RawToken, Token, TokenFault, TokenRefusal, TokenView, read, read_raw, write,
+    RawToken, Token, TokenFault, TokenForm, TokenRefusal, TokenView, read, read_raw, write,
 };
 
 /// Tells what a case comes to, if it is one of these kinds.
@@ -136,7 +136,7 @@ fn rewritten(case: &mut Case<'_>) {
 }
 
 /// Appends a token's bytes in a form, or the refusal.
-pub(crate) fn say_written(case: &mut Case<'_>, token: &Token, form: Form) {
+pub(crate) fn say_written(case: &mut Case<'_>, token: &Token, form: TokenForm) {
     match write(case.alloc, token, form) {
         Ok(written) => case.digits(&written),
         Err(fault) => say_refusal(case, fault),

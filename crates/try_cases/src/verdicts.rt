@@ -4,7 +4,7 @@ use crate::asking::{ask, say_refused};
 use crate::case::{Case, CaseFault};
 use mac_hmac::RootKey;
 use mac_keys::Keys;
-use mac_token::{Form, RawCaveat, RawToken, Token, read_raw, write};
+use mac_token::{RawCaveat, RawToken, Token, TokenForm, read_raw, write};
 use mac_wire::{FieldList, Refusal, Reply, Request};
 
 /// What is changed.
@@ -54,7 +54,7 @@ fn say_verdict(case: &mut Case<'_>, key: &RootKey, bytes: &[u8], facts: &str, pa
 
 /// Appends the verdict on a token at the moment 0, which the key gives alone and behind another.
 fn say_of(case: &mut Case<'_>, key: &RootKey, token: &Token, facts: FieldList<'_>) {
-    let Ok(token) = write(case.alloc, token, Form::V2Binary) else {
+    let Ok(token) = write(case.alloc, token, TokenForm::V2Binary) else {
         return case.fail(CaseFault::NoCase);
     };
     let alone = Keys {

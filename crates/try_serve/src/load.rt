@@ -1,12 +1,12 @@
 //! Many requests of one kind, to be timed.
 
 use crate::fault::RunFault;
-use crate::payload::{Form, Texts, append_frame, mint_request, verify_request};
+use crate::payload::{Texts, append_frame, mint_request, verify_request};
 use crate::requests::full_job;
 use crate::serving::by_a_pool;
 use crate::streams::key_table;
 use mac_decide::answer;
-use mac_wire::{Arrival, Bytes, MemSink, MemSource, Reply};
+use mac_wire::{Arrival, Bytes, MemSink, MemSource, Reply, TokenForm};
 use std::alloc::{AllocError, Global};
 use std::sync::Wait;
 use std::thread::Threads;
@@ -33,7 +33,7 @@ fn payload_of(alloc: Global, kind: &str) -> Result<Vec<u8>, RunFault> {
 }
 
 fn minting(alloc: Global) -> Result<Vec<u8>, AllocError> {
-    mint_request(alloc, Form::V2Binary, b"bank", b"user:1001", CAVEATS)
+    mint_request(alloc, TokenForm::V2Binary, b"bank", b"user:1001", CAVEATS)
 }
 
 fn verifying(alloc: Global) -> Result<Vec<u8>, RunFault> {

@@ -1,26 +1,7 @@
 //! The payloads of requests.
 
+use mac_wire::TokenForm;
 use std::alloc::{AllocError, Global};
-
-/// The forms of a token, as requests name them.
-#[derive(Clone, Copy)]
-pub(crate) enum Form {
-    V1Text,
-    V2Binary,
-    V2Json,
-    V2Text,
-}
-
-impl Form {
-    fn code(self) -> u8 {
-        match self {
-            Form::V1Text => 1,
-            Form::V2Binary => 2,
-            Form::V2Json => 3,
-            Form::V2Text => 4,
-        }
-    }
-}
 
 /// A run of the texts that tokens have as caveats, and requests as facts.
 #[derive(Clone, Copy)]
@@ -46,7 +27,7 @@ fn text_of(number: u64) -> &'static [u8] {
 /// Asks for a token of this identifier.
 pub(crate) fn mint_request(
     alloc: Global,
-    form: Form,
+    form: TokenForm,
     name: &[u8],
     identifier: &[u8],
     caveats: Texts,
@@ -62,7 +43,7 @@ pub(crate) fn mint_request(
 /// Asks for a token with further caveats.
 pub(crate) fn attenuate_request(
     alloc: Global,
-    form: Form,
+    form: TokenForm,
     token: &[u8],
     caveats: Texts,
 ) -> Result<Vec<u8>, AllocError> {

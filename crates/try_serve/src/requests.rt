@@ -2,10 +2,10 @@
 
 use crate::clock::MOMENT;
 use crate::fault::RunFault;
-use crate::payload::{Form, Texts, append_frame, attenuate_request, mint_request, verify_request};
+use crate::payload::{Texts, append_frame, attenuate_request, mint_request, verify_request};
 use mac_decide::{Job, Rights, Terms, answer, job_of};
 use mac_keys::KeyTable;
-use mac_wire::{Arrival, Bytes, HELLO, Reply, Version, append_reply};
+use mac_wire::{Arrival, Bytes, HELLO, Reply, TokenForm, Version, append_reply};
 use std::alloc::{AllocError, Global};
 
 /// How many tokens the requests are about.
@@ -25,12 +25,12 @@ impl Dice {
         self.state
     }
 
-    fn form(&mut self) -> Form {
+    fn form(&mut self) -> TokenForm {
         match self.throw() % 4 {
-            0 => Form::V1Text,
-            1 => Form::V2Binary,
-            2 => Form::V2Json,
-            _ => Form::V2Text,
+            0 => TokenForm::V1Text,
+            1 => TokenForm::V2Binary,
+            2 => TokenForm::V2Json,
+            _ => TokenForm::V2Text,
         }
     }
 

@@ -13,7 +13,6 @@ returns c =
     let own : length c.sig.result ≡ 32 = search rules in
     let folding = c.of_caveats.ensures ∙ ap (λ (sig : List ℕ). progress sig c.args.caveats) c.from_bytes-own.ensures in
     let size = ap (λ (f : Progress). length (end_of f)) folding ∙ extended-length c.sig.result c.args.caveats own in
-    let drafted = rw c.form_of.ensures at c.draft_narrowed-made.ensures in
-    let signed = c.draft_to_sign.ensures c.args.form t size drafted in
+    let signed = c.draft_to_sign.ensures c.args.form t size c.draft_narrowed-made.ensures in
     let whole = folding ∙ ap (λ (sig : List ℕ). progress sig c.args.caveats) c.sig.ensures in
     subst (λ (f : Progress). IfOk c.draft_to_sign.result (λ p. comes_to p ≡ token_reply c.args.form (with_sig t (end_of f)))) whole signed

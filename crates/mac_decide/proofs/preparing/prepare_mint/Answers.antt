@@ -12,6 +12,5 @@ pub returns : goal.returns
 returns c =
     let t = token_parts c.args.location.now c.args.identifier.now c.args.caveats [] in
     let size = ap (λ (f : Progress). length (end_of f)) c.of_mint.ensures ∙ chain-length c.args.key c.args.identifier.now c.args.caveats in
-    let drafted = rw c.form_of.ensures at c.draft_of_parts-made.ensures in
-    let signed = c.draft_to_sign.ensures c.args.form t size drafted in
+    let signed = c.draft_to_sign.ensures c.args.form t size c.draft_of_parts-made.ensures in
     subst (λ (f : Progress). IfOk c.draft_to_sign.result (λ p. comes_to p ≡ token_reply c.args.form (with_sig t (end_of f)))) c.of_mint.ensures signed
