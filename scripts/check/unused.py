@@ -23,6 +23,7 @@ MEMORY = "a device over memory: the trials state by it what a device reads or wr
 WHOLE = "all the threads of a pool in one theorem, which try_serve runs"
 LIBRARY = "for those who take mac_decide as a library (its CALLING.md)"
 MEANT = {
+    "mac_wire::field_list::FieldList::read": "reads a list that stands alone, as the trials have theirs",
     "mac_wire::mem_sink::MemSink::new": MEMORY,
     "mac_wire::mem_source::MemSource::new": MEMORY,
     "mac_wire::reply::reply_bytes": LIBRARY,

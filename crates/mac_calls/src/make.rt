@@ -5,7 +5,7 @@ ghost use Rattle.serde_json.specs.View.{view};
 ghost use Rattle.mac_token.specs.RawToken.{byte_lists};
 ghost use Rattle.mac_calls.specs.Gives.{Gives};
 ghost use Rattle.mac_calls.specs.Made.{as_text, attenuate_reply, attenuated, made_text, mint_reply};
-ghost use Rattle.mac_calls.specs.Made.{minted, narrowed, new_text, some_caveat};
+ghost use Rattle.mac_calls.specs.Made.{minted, some_caveat};
 
 use crate::asking::ask;
 use crate::counted::counted_facts;
@@ -16,7 +16,7 @@ use crate::warned::list_warnings;
 use base64::engine::general_purpose::URL_SAFE_NO_PAD;
 use mac_keys::Keys;
 use mac_token::{TOKEN_MAX, TokenForm};
-use mac_wire::{Refusal, Reply, Request};
+use mac_wire::{FieldList, Refusal, Reply, Request};
 use serde_json::Value;
 use std::alloc::Global;
 
@@ -47,7 +47,10 @@ pub(crate) fn minted(
     let location = location_in(object)?;
     let caveats = caveats_in(alloc, object)?;
     let form = form_in(object)?.unwrap_or(TokenForm::V2Text);
-    let text = new_text(alloc, keys, form, location, &identifier, &caveats)?;
+    let Some(counted) = counted_facts(alloc, &caveats)? else {
+        return Err(Refusal::Limit.into());
+    };
+    let text = new_text(alloc, keys, form, location, &identifier, counted.lend())?;
     let warnings = list_warnings(alloc, &caveats, moment)?;
     Ok(NewToken {
         identifier,
@@ -57,21 +60,17 @@ pub(crate) fn minted(
 }
 
 /// The text of the token of these parts under the first of the keys, in a form.
-fn new_text<'a>(
+fn new_text(
     alloc: Global,
     keys: &Keys,
     form: TokenForm,
-    location: &'a str,
-    identifier: &'a [u8],
-    caveats: &[Vec<u8>],
+    location: &str,
+    identifier: &[u8],
+    caveats: FieldList<'_>,
 ) -> Result<Vec<u8>, CallFault>
-    ensures { Gives (λ text. text.items) result
-        (new_text keys.now form location.now identifier.now (byte_lists caveats.now)) }
+    ensures { Gives (λ text. text.items) result (made_text form
+        (mint_reply keys.now form location.now identifier.now caveats.entry)) }
 {
-    let Some(counted) = counted_facts(alloc, caveats)? else {
-        return Err(Refusal::Limit.into());
-    };
-    let caveats = counted.lend();
     let request = Request::Mint {
         form,
         key: b"",
@@ -101,7 +100,10 @@ pub(crate) fn attenuated(
         Some(form) => form,
         None => form_of_text(alloc, text.as_bytes())?,
     };
-    let text = narrowed(alloc, form, text.as_bytes(), &caveats)?;
+    let Some(counted) = counted_facts(alloc, &caveats)? else {
+        return Err(Refusal::Limit.into());
+    };
+    let text = narrowed(alloc, form, text.as_bytes(), counted.lend())?;
     let warnings = list_warnings(alloc, &caveats, moment)?;
     Ok((text, warnings))
 }
@@ -122,15 +124,11 @@ fn narrowed(
     alloc: Global,
     form: TokenForm,
     token: &[u8],
-    caveats: &[Vec<u8>],
+    caveats: FieldList<'_>,
 ) -> Result<Vec<u8>, CallFault>
     ensures { Gives (λ text. text.items) result
-        (narrowed form token.now (byte_lists caveats.now)) }
+        (made_text form (attenuate_reply form token.now caveats.entry)) }
 {
-    let Some(counted) = counted_facts(alloc, caveats)? else {
-        return Err(Refusal::Limit.into());
-    };
-    let caveats = counted.lend();
     let request = Request::Attenuate {
         form,
         token,

@@ -2,9 +2,9 @@
 
 ghost use Rattle.std.specs.Prelude.{◌≡◌, IfOk};
 ghost use Rattle.http.specs.Request.{head_of};
-ghost use Rattle.mac_http.specs.Found.{found_by, found_of};
+ghost use Rattle.mac_http.specs.Found.{found_at, found_by, found_of, terms_of};
 
-use crate::authorization::{Scheme, credentials_in};
+use crate::authorization::{Credentials, Scheme, credentials_in};
 use crate::facts::{facts_of, tells_fragment, tells_unsafe};
 use crate::footing::Footing;
 use crate::target::target_in;
@@ -12,7 +12,7 @@ use bytes::Bytes as Body;
 use http::Request as HttpRequest;
 use mac_calls::counted_facts;
 use mac_decide::{Asking, answer_request};
-use mac_wire::{Bytes, Grant, Refusal, Reply, Request};
+use mac_wire::{Bytes, FieldList, Grant, Refusal, Reply, Request};
 use std::alloc::{AllocError, Global};
 
 /// What is found of a request. The first that applies is told.
@@ -65,13 +65,27 @@ pub fn find(
     let Some(counted) = counted_facts(alloc, &facts)? else {
         return Ok(Finding::ManyFacts);
     };
+    find_at(alloc, footing, target.name, credentials, counted.lend())
+}
+
+/// What is found of a token with these facts.
+fn find_at(
+    alloc: Global,
+    footing: Footing<'_>,
+    name: &[u8],
+    credentials: Credentials<'_>,
+    facts: FieldList<'_>,
+) -> Result<Finding, AllocError>
+    ensures { IfOk result (λ f. f ≡ found_at
+        (terms_of footing.entry.keys.now footing.entry.rules footing.entry.moment) name.now
+        (credentials.entry.scheme, credentials.entry.token.now) facts.entry footing.entry.moment) }
+{
     if footing.moment.is_none() {
         return Ok(Finding::NoMoment);
     }
-    let facts = counted.lend();
     let request = Request::VerifyNow {
         grant: Grant::Owner,
-        key: target.name,
+        key: name,
         token: credentials.token,
         facts,
     };

@@ -10,6 +10,7 @@ use Rattle.std.specs.declared.string.String.{String}
 use Rattle.std.specs.declared.vec.Vec.{Vec}
 use Rattle.std.proofs.lemmas.Bool.{ltb-false, le-ltb, lt-ltb}
 use Rattle.std.proofs.lemmas.List.Elements.{All-cons, All-nil}
+use Rattle.std.proofs.lemmas.List.{length-map}
 use Rattle.mac_token.specs.Form.{form_code}
 use Rattle.mac_token.specs.declared.form.TokenForm.{TokenForm}
 use Rattle.mac_wire.specs.Request.{Asked, AreFields, IsRequest, payload_of, short_field, long_field, counted_fields, mint, attenuate, verify}
@@ -108,8 +109,12 @@ gives_payload request (Ok bytes) (Err why) none fits is framed =
 gives_payload request (Err e) (Ok payload) none fits is framed = absurd framed
 gives_payload request (Err e) (Err why) none fits is framed = inl framed
 
-pub few_facts : (facts : List (List ℕ)) → length facts ≤ FACTS_MAX → length facts < 2 ^ 8
-few_facts facts few = omega arith
+-- as many texts as there are lists of their bytes
+pub few_texts : (texts : List (String Global)) → length (texts_of texts) < 2 ^ 8 → length texts < 2 ^ 8
+few_texts texts few = omega (arith, few, length-map texts (λ (t : String Global). string_bytes t))
+
+pub few_facts : (facts : List (String Global)) → length (texts_of facts) ≤ FACTS_MAX → length facts < 2 ^ 8
+few_facts facts few = omega (arith, few, length-map facts (λ (t : String Global). string_bytes t))
 
 -- a payload as it is put together
 pub mint_made : (form : TokenForm) (code : ℕ) (key location identifier : List ℕ) (caveats : List (List ℕ)) (o0 o1 o2 o3 o4 o5 : List ℕ) → o0 ≡ [] → code ≡ form_code form

@@ -1,12 +1,12 @@
 use Rattle.mac_words.specs.Payload.{texts_of}
-use Rattle.mac_words.proofs.PayloadLemmas.{attenuate_made}
+use Rattle.mac_words.proofs.PayloadLemmas.{attenuate_made, few_texts}
 use Rattle.mac_words.proofs.payload.attenuate_bytes.Goals as goal
 
 pub append_long_field-requires : goal.append_long_field-requires
 append_long_field-requires c = c.requires.0
 
 pub append_counted_fields-requires : goal.append_counted_fields-requires
-append_counted_fields-requires c = record { count = c.requires.1; each = c.requires.2 }
+append_counted_fields-requires c = record { count = few_texts c.args.caveats.now c.requires.1; each = c.requires.2 }
 
 pub returns : goal.returns
 returns c =
