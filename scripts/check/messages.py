@@ -75,20 +75,21 @@ def key_files(folder):
 
 def lists(folder):
     """A list that is missing, a folder, or not for this user: a daemon and a command tell it alike."""
-    missing, inside, locked, keys = (f"{folder}/{name}" for name in ("missing", "inside", "locked", "keys"))
-    os.mkdir(inside)
+    missing, inside, locked, keys, theirs = (f"{folder}/{name}" for name in ("missing", "inside", "locked", "keys", "theirs"))
+    os.mkdir(inside, 0o700)
     pathlib.Path(locked).write_text("# none\n")
     os.chmod(locked, 0)
-    pathlib.Path(keys).write_bytes(KEYS.read_bytes())
-    os.chmod(keys, 0o600)
+    for path in (keys, theirs):
+        pathlib.Path(path).write_bytes(KEYS.read_bytes())
+        os.chmod(path, 0o600)
     if not os.geteuid():
-        os.chown(keys, NOBODY, NOBODY)
+        os.chown(theirs, NOBODY, NOBODY)
     due = f"error: {missing}: there is no list of tokens that were taken back\n"
     for words in (listen, serve, verify):
-        name, asked = words.__name__, words(f"{folder}/{words.__name__}", keys)
-        yield f"{name}: no list", refused([*asked, "--revoked", missing]), (3, due)
-        yield f"{name}: a folder", refused([*asked, "--revoked", inside]), (3, f"error: {inside}: the list {FOLDER}\n")
-        status, error = refused([*asked, "--revoked", locked], preexec_fn=become_nobody)
+        name, asked = words.__name__, [*words(f"{folder}/{words.__name__}", keys), "--revoked"]
+        yield f"{name}: no list", refused([*asked, missing]), (3, due)
+        yield f"{name}: a folder", refused([*asked, inside]), (3, f"error: {inside}: the list {FOLDER}\n")
+        status, error = refused([*words(f"{folder}/{name}", theirs), "--revoked", locked], preexec_fn=become_nobody)
         yield f"{name}: no permission", (status, error.splitlines()[-1:]), (3, [f"error: {locked}: the list {UNREADABLE}"])
 
 

@@ -28,9 +28,9 @@ SIDE_CROWDS, SIDE_WAIT_MAX, SIDE_PATIENCE = (600,), 0.15, 30
 WORK_ROUNDS = 12_000
 
 
-def dearest_request():
-    """A verify of a token of nearly 32 KiB in JSON, with as many caveats as it may have."""
-    caveats = ",".join('{"i":"' + "x" * 230 + '"}' for _ in range(128))
+def dearest_request(count=128):
+    """A verify of a token in JSON with so many caveats; of nearly 32 KiB with as many as it may have."""
+    caveats = ",".join('{"i":"' + "x" * 230 + '"}' for _ in range(count))
     token = '{"v":2,"i":"a","c":[' + caveats + '],"s64":"' + "A" * 43 + '"}'
     payload = request.verify("bank", token, 0)
     return frame(payload)

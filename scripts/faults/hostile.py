@@ -21,8 +21,8 @@ same is done over HTTP. And 600 send them at the second socket, beside one who s
 Then 64 and 640 clients send requests of 5 KiB whose replies have 30, and read them slowly, some 36 KB in
 ten seconds; once what they sent first is answered, a verify of 8 KiB is timed beside them.
 
-Then 1,500 clients, one after the other, send a small request with one of the dearest behind it, and close at
-once. One that stays waits with such a request behind them, before one worker.
+Then 3,000 clients, one after the other, send a small request with a dear one behind it, and close at once.
+One that stays waits with such a request behind them, before one worker.
 
 Then 63 clients that never read send requests whose replies are the largest beside them, as many as
 the daemon takes, and the daemon, now with all arenas, stays below PEAK_MAX. Asks for bin/macaroond,
@@ -63,8 +63,9 @@ SILENT, PEAK_MAX = 63, 450
 # within how many seconds that has to be, and how many seconds of its waits the 99th percentile may be.
 SLOW_CROWDS, SLOW_BYTES, SLOW_REQUESTS = (64, 640), 3_600, 40
 SLOW_SECONDS, QUICK_WAITS, SLOW_SETTLING, SLOW_WAIT_MAX = 3, 50, 30, 0.1
-# How many clients go at once behind a dear request, and how many seconds one may wait behind them.
-DESERTERS, DESERTED_WAIT_MAX = 1_500, 0.5
+# How many clients go at once behind a dear request, how many caveats that has so that it comes in one read, and how many
+# seconds one may wait behind them.
+DESERTERS, DESERTED_CAVEATS, DESERTED_WAIT_MAX = 3_000, 60, 0.5
 # A caveat that JSON writes with six letters for a byte, and how many of them fill a token.
 CONTROL, CONTROLS = "hex:" + "01" * 1000, 5
 
@@ -310,7 +311,7 @@ def beside_slow(path):
 def behind_deserters(path):
     """What is wrong with the wait of a dear request behind those of clients that have gone, if anything: nobody waits for
     their answers."""
-    dear = dearest_request()
+    dear = dearest_request(DESERTED_CAVEATS)
     for _ in range(DESERTERS):
         with contextlib.suppress(OSError), connected(path) as stream:
             stream.sendall(frame(request.verify("bank", "", 0)) + dear)
